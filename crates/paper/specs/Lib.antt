@@ -1,0 +1,12 @@
+pub mod Values
+pub mod Rule
+pub mod Grammar
+pub mod Meaning
+pub mod Direct
+pub mod Columns
+pub mod Plan
+pub mod Pages
+pub mod Batch
+pub mod Finder
+pub mod Calls
+pub mod Examples
