@@ -12,7 +12,7 @@ use Rattle.paper.specs.Grammar.{Got, got, refused, then, twos, exprAt, e
 use Rattle.paper.specs.Meaning.{eval}
 use Rattle.paper.specs.Direct.{State, step, steps, exit, walk, start, advance, after}
 use Rattle.paper.specs.Columns.{some, reads, endLooks, readFirst, sets, jumpsTo, leadsTo, outputs, from, grown, rounds, closure, inputsOf}
-use Rattle.paper.specs.Plan.{maskOf, entriesTo, planOf, same, planned}
+use Rattle.paper.specs.Plan.{maskOf, entryOf, entriesTo, planOf, same, planned}
 use Rattle.paper.specs.Pages.{wordSum, checkOf, pageBody, pageOf, pagesTo, fileOf, allZero, lengthOk, pageAt, payloadTo, unpacked}
 use Rattle.paper.specs.Batch.{Word, startsOf, recordsOf, countTo, columnsOf, linesFrom, liveOf, mostOf}
 use Rattle.paper.specs.Calls.{Batch, refusal, toCompile, toWrite, ranReply, runReply, recordsIn, tableIn}
@@ -135,7 +135,7 @@ endless-after q (suc n) = rw (endless-after q n) (ap (λ k. record { status = 0;
 
 pub examples-hold : All examples
 unfolding examples settled quotient remainder twos exprAt endAt blockFrom blocksTo headed ruleOf eval step steps exit walk advance after
-    some reads endLooks readFirst sets jumpsTo leadsTo outputs from grown rounds closure inputsOf maskOf entriesTo planOf same planned
+    some reads endLooks readFirst sets jumpsTo leadsTo outputs from grown rounds closure inputsOf maskOf entryOf entriesTo planOf same planned
     wordSum checkOf pageBody pageOf pagesTo fileOf startsOf recordsOf countTo columnsOf linesFrom liveOf mostOf
     toWrite ranReply runReply recordsIn tableIn
 examples-hold =

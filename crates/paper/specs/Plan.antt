@@ -31,7 +31,7 @@ abbrev pub headSize : ℕ → ℕ
 headSize n = 6 + 8 * n
 
 -- a block's entry: the offset of its body in the plan, its input and its output mask, 1 if it is in J and else 0
-abbrev pub entryOf : Rule → List ℕ → ℕ → List ℕ
+unfoldable pub entryOf : Rule → List ℕ → ℕ → List ℕ
 entryOf r s b =
     le16 (placeOf r s b - 4 + headSize (size r))
     ++ (le16 (maskOf (r .variables) (inputsOf (flowOf r) b))

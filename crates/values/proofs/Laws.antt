@@ -1,0 +1,188 @@
+-- Laws of the integers that the proofs share: which exact results fit a width, and what a result in range settles to.
+-- Assumes nothing.
+use mathlib.Core.Path.{_≡_, refl, sym, ap, subst, _∙_}
+use mathlib.Core.Bool.{Bool, true, false, cond, _||_}
+use Prim.Native.Nat.{ℕ, zero, suc, _+_, _-_, _*_, _/_, _≤_, _<_}
+use native.Mathlib.Nat.{mul-le-mul, mul-zero, div-le-self, div-one, div-le-of-le-mul, mod-add-div}
+use native.Mathlib.Omega.{arith}
+use lib.Dec.{ltb, eqb}
+use lib.IntN.{ℤ, pos, negsuc, negℤ, natAbs, subℕ, _+ℤ_, _-ℤ_, _*ℤ_, +ℤ-idl, negℤ-+ℤ}
+use lib.Signed.{mag, ltZ, quotZ, remZ, mag-rem, natAbs-le}
+use mir.Syntax.{w32, w64}
+use mir.Val.{SFits, ofZ, toZ}
+use mir.Facts.{sfits-widen, toZ-ofZ}
+use mir.ValLaws.{sfits-le}
+use borrow.Author.Needs.{needs}
+use borrow.Author.Tests.{ltb-false, lt-ltb, le-ltb, eqb-true, eqb-false, eq-eqb, ne-eqb}
+use Rattle.paper.specs.Values.{Val, value, fault, flaw, outcomeOf, isEqual, settled, divided, quotient, remainder, least, most}
+use Rattle.paper.specs.Rule.{Operator, Add, Subtract, Multiply, Divide, Remainder}
+use Rattle.paper.specs.Meaning.{applied}
+use Rattle.paper.specs.Grammar.{twos}
+use Rattle.paper.specs.declared.Kind.the-variants.{OutOfRange, ZeroDivisor}
+use Rattle.paper.specs.declared.Outcome.the-variants.{Value}
+
+-- ---- the size of a negation, a sum and a product
+abs-neg : (z : ℤ) → natAbs (negℤ z) ≤ natAbs z
+abs-neg (pos zero) = omega arith
+abs-neg (pos (suc n)) = omega arith
+abs-neg (negsuc n) = omega arith
+
+abs-cond : (b : Bool) (m n k : ℕ) → m < k → n ≤ k → natAbs (cond b (negsuc m) (pos n)) ≤ k
+abs-cond true m n k p q = p
+abs-cond false m n k p q = q
+
+abs-sub : (a b : ℕ) → natAbs (subℕ a (suc b)) ≤ a + suc b
+abs-sub a b = abs-cond (ltb a (suc b)) (suc b - suc a) (a - suc b) (a + suc b) (omega arith) (omega arith)
+
+abs-sum : (x y : ℤ) → natAbs (x +ℤ y) ≤ natAbs x + natAbs y
+abs-sum (pos a) (pos b) = omega arith
+abs-sum (pos a) (negsuc b) = abs-sub a b
+abs-sum (negsuc a) (pos b) = omega (arith, abs-sub b a)
+abs-sum (negsuc a) (negsuc b) = omega arith
+
+abs-product : (x y : ℤ) → natAbs (x *ℤ y) ≤ natAbs x * natAbs y
+abs-product (pos a) (pos b) = omega arith
+abs-product (pos a) (negsuc b) = abs-neg (pos (a * suc b))
+abs-product (negsuc a) (pos b) = abs-neg (pos (suc a * b))
+abs-product (negsuc a) (negsuc b) = omega arith
+
+-- ---- what is exact at 32 bits fits 64
+mag-abs : (z : ℤ) → mag z ≤ natAbs z
+mag-abs (pos n) = omega arith
+mag-abs (negsuc n) = omega arith
+
+pub wide : {z : ℤ} → SFits w32 z → SFits w64 z
+wide f = sfits-widen tt f
+
+module _ (x y : ℤ) (f : SFits w32 x) (g : SFits w32 y) where
+  pub sum-fits : SFits w64 (x +ℤ y)
+  sum-fits = omega (arith, mag-abs (x +ℤ y), abs-sum x y, natAbs-le x (f .sfits), natAbs-le y (g .sfits))
+
+  pub difference-fits : SFits w64 (x -ℤ y)
+  difference-fits = omega (arith, mag-abs (x -ℤ y), abs-sum x (negℤ y), abs-neg y, natAbs-le x (f .sfits), natAbs-le y (g .sfits))
+
+  pub product-fits : SFits w64 (x *ℤ y)
+  product-fits = omega (arith, mag-abs (x *ℤ y), abs-product x y, mul-le-mul (natAbs-le x (f .sfits)) (natAbs-le y (g .sfits)))
+
+-- ---- what a number settles to
+pub in-range : (z : ℤ) → ltZ z least ≡ false → ltZ most z ≡ false → SFits w32 z
+in-range (pos n) p q = omega (arith, ltb-false 2147483647 n q)
+in-range (negsuc n) p q = omega (arith, ltb-false 2147483647 n p)
+
+pub settled-fits : {z : ℤ} → SFits w32 z → settled z ≡ value z
+unfolding settled
+settled-fits {z = pos n} f = simp (le-ltb 2147483647 n (omega arith))
+settled-fits {z = negsuc n} f = simp (le-ltb 2147483647 n (omega arith))
+
+-- the value that a result settles to is in the range
+pub value-fits : (z : ℤ) {w : ℤ} → settled z ≡ value w → SFits w32 w
+unfolding settled
+value-fits z {w} e = go (ltZ z least) (ltZ most z) refl refl e
+  where
+    go : (a b : Bool) → ltZ z least ≡ a → ltZ most z ≡ b → cond (a || b) (fault (flaw OutOfRange)) (value z) ≡ value w → SFits w32 w
+    go true b p q e = let k : _≡_ {A = ℕ} 0 1 = cc in absurd (omega arith)
+    go false true p q e = let k : _≡_ {A = ℕ} 0 1 = cc in absurd (omega arith)
+    go false false p q e = let k : z ≡ w = cc in subst (λ (v : ℤ). SFits w32 v) k (in-range z p q)
+
+divided-value : (y z : ℤ) {w : ℤ} → divided y (settled z) ≡ value w → SFits w32 w
+divided-value y z {w} e = go (eqb (natAbs y) 0) e
+  where
+    go : (b : Bool) → cond b (fault (flaw ZeroDivisor)) (settled z) ≡ value w → SFits w32 w
+    go true e = let k : _≡_ {A = ℕ} 0 1 = cc in absurd (omega arith)
+    go false e = value-fits z e
+
+pub applied-fits : (o : Operator) (x y : Val) {w : Val} → applied o x y ≡ value w → SFits w32 w
+unfolding quotient remainder
+applied-fits Add x y e = value-fits _ e
+applied-fits Subtract x y e = value-fits _ e
+applied-fits Multiply x y e = value-fits _ e
+applied-fits Divide x y e = divided-value y _ e
+applied-fits Remainder x y e = divided-value y _ e
+
+pub ruleset exact = (needs, wide, sum-fits, difference-fits, product-fits, +ℤ-idl)
+
+-- ---- numbers and their bits
+eqb-iff : (a b c d : ℕ) → (a ≡ b → c ≡ d) → (c ≡ d → a ≡ b) → eqb a b ≡ eqb c d
+eqb-iff a b c d f g = go (eqb c d) refl
+  where
+    go : (t : Bool) → eqb c d ≡ t → eqb a b ≡ t
+    go true e = eq-eqb a b (g (eqb-true c d e))
+    go false e = ne-eqb a b (λ p. eqb-false c d e (f p))
+
+-- two numbers are equal where their bits are
+pub equal-bits : (x y : ℤ) → SFits w32 x → SFits w32 y → eqb (ofZ w32 x) (ofZ w32 y) ≡ isEqual x y
+equal-bits (pos a) (pos b) f g = refl
+equal-bits (pos a) (negsuc b) f g = ne-eqb a (4294967296 - suc b) (λ e. omega arith)
+equal-bits (negsuc a) (pos b) f g = ne-eqb (4294967296 - suc a) b (λ e. omega arith)
+equal-bits (negsuc a) (negsuc b) f g = eqb-iff (4294967296 - suc a) (4294967296 - suc b) a b (λ e. omega arith) (λ e. omega arith)
+
+-- ---- quotient and remainder
+-- the number that has the bits n
+pub named : {z : ℤ} {n : ℕ} → SFits w32 z → ofZ w32 z ≡ n → z ≡ toZ w32 n
+named f e = sym (toZ-ofZ f) ∙ ap (toZ w32) e
+
+nonzero : (y : ℤ) → (ofZ w32 y ≡ 0 → ⊥) → eqb (natAbs y) 0 ≡ false
+nonzero (pos n) h = ne-eqb n 0 h
+nonzero (negsuc n) h = ne-eqb (suc n) 0 (λ e. omega arith)
+
+divided-fits : (y : ℤ) {z : ℤ} → (ofZ w32 y ≡ 0 → ⊥) → SFits w32 z → outcomeOf (divided y (settled z)) ≡ Value z
+divided-fits y h f = rw (nonzero y h) (ap outcomeOf (settled-fits f))
+
+mag-neg : (q : ℕ) → mag (negℤ (pos q)) ≤ q - 1
+mag-neg zero = omega arith
+mag-neg (suc q) = omega arith
+
+pub quotient-value : (x y : ℤ) → (ofZ w32 y ≡ 0 → ⊥) → SFits w32 (quotZ x y) → outcomeOf (quotient x y) ≡ Value (quotZ x y)
+unfolding quotient
+quotient-value x y h f = divided-fits y h f
+
+-- a quotient fits, but for the least number by -1
+pub quotient-fits : (x y : ℤ) → SFits w32 x → (ofZ w32 x ≡ 2147483648 → ofZ w32 y ≡ 4294967295 → ⊥) → SFits w32 (quotZ x y)
+quotient-fits (pos a) (pos b) f h = omega (arith, div-le-self a b)
+quotient-fits (pos a) (negsuc b) f h = omega (arith, mag-neg (a / suc b), div-le-self a (suc b))
+quotient-fits (negsuc a) (pos b) f h = omega (arith, mag-neg (suc a / b), div-le-self (suc a) b)
+quotient-fits (negsuc a) (negsuc zero) f h =
+    let k : a ≡ 2147483647 → ⊥ = λ e. h (omega arith) refl in
+    omega (arith, div-one (suc a))
+quotient-fits (negsuc a) (negsuc (suc b)) f h = omega (arith, div-le-of-le-mul (suc (suc b)) {m = suc a} {n = 1073741824} (omega arith))
+
+less : (a n r : ℕ) → r + n ≡ a → pos a -ℤ pos n ≡ pos r
+less a zero r e = ap pos (omega arith)
+less a (suc n) r e = rw (le-ltb a (suc n) (omega arith)) (ap pos (omega arith))
+
+more : (a n r : ℕ) → r + n ≡ suc a → negsuc a -ℤ negℤ (pos n) ≡ negℤ (pos r)
+more a n r e = sym (negℤ-+ℤ (pos (suc a)) (negℤ (pos n))) ∙ ap negℤ (less (suc a) n r e)
+
+times-neg : (b q : ℕ) → pos b *ℤ negℤ (pos q) ≡ negℤ (pos (b * q))
+times-neg b zero = rw mul-zero
+times-neg b (suc q) = refl
+
+neg-times-neg : (b q : ℕ) → negsuc b *ℤ negℤ (pos q) ≡ pos (suc b * q)
+neg-times-neg b zero = rw mul-zero
+neg-times-neg b (suc q) = refl
+
+-- x minus y times the quotient is the remainder with the sign of x
+remainder-law : (x y : ℤ) → x -ℤ y *ℤ quotZ x y ≡ remZ x y
+remainder-law (pos a) (pos b) = less a _ _ (mod-add-div a b)
+remainder-law (pos a) (negsuc b) = rw neg-times-neg (less a _ _ (mod-add-div a (suc b)))
+remainder-law (negsuc a) (pos b) = rw times-neg (more a _ _ (mod-add-div (suc a) b))
+remainder-law (negsuc a) (negsuc b) = more a _ _ (mod-add-div (suc a) (suc b))
+
+pub remainder-fits : (x y : ℤ) → SFits w32 x → SFits w32 (remZ x y)
+remainder-fits x y f = sfits-le (mag-rem x y) f
+
+pub remainder-value : (x y : ℤ) → (ofZ w32 y ≡ 0 → ⊥) → SFits w32 x → outcomeOf (remainder x y) ≡ Value (remZ x y)
+unfolding remainder
+remainder-value x y h f = rw remainder-law (divided-fits y h (remainder-fits x y f))
+
+-- ---- two's complement
+pub twos-low : {n : ℕ} → n < 2147483648 → twos n ≡ pos n
+unfolding twos
+twos-low {n} h = rw (lt-ltb n 2147483648 h)
+
+pub twos-high : {n : ℕ} → 2147483648 ≤ n → twos n ≡ pos n -ℤ pos 4294967296
+unfolding twos
+twos-high {n} h = rw (le-ltb n 2147483648 h)
+
+pub high-fits : (n : ℕ) → 2147483648 ≤ n → n < 4294967296 → SFits w32 (pos n -ℤ pos 4294967296)
+high-fits n h k = rw (lt-ltb n 4294967296 k) (omega arith)
