@@ -1,0 +1,4 @@
+pub mod Laws
+pub mod Sweeps
+pub mod Bits
+pub mod Tables

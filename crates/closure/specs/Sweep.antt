@@ -1,0 +1,18 @@
+-- What a sweep over the numbers from the last to the first, in place, has done when it stands at b.
+use mathlib.Core.Path.{_≡_}
+use mathlib.Core.Bool.{Bool, true, false}
+use Prim.Native.Nat.{ℕ, _≤_, _<_}
+use Rattle.paper.specs.Columns.{grown}
+use Rattle.paper.specs.Batch.{countTo}
+use Rattle.paper.proofs.Counts.{Within}
+
+-- the part of `Closed` that speaks of edges
+abbrev pub Back : ℕ → (ℕ → ℕ → Bool) → (ℕ → Bool) → Type 0
+Back n edge u = (b t : ℕ) → b < n → t < n → edge b t ≡ true → u t ≡ true → u b ≡ true
+
+pub record Sweep (n : ℕ) (edge : ℕ → ℕ → Bool) (old : ℕ → Bool) (b : ℕ) (new : ℕ → Bool) (more : Bool) : Type 0 where
+  pub keeps : Within n old new
+  pub sound : (u : ℕ → Bool) → Back n edge u → Within n old u → Within n new u
+  pub same : more ≡ false → Within n new old
+  pub idle : more ≡ false → (c : ℕ) → b ≤ c → c < n → grown n edge old c ≡ true → old c ≡ true
+  pub busy : more ≡ true → countTo n old < countTo n new
