@@ -1,1 +1,4 @@
 pub mod OnPlan
+pub mod Proper
+pub mod Row
+pub mod Range

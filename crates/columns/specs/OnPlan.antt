@@ -1,8 +1,8 @@
 -- The run of a rule on the columns of its plan: a line holds the LC columns alone, a block is entered with its input columns alone and hands on
--- its output columns alone. That it gives what the direct run gives is the theorem `on-plan` of proofs/Agree.antt.
-use Prim.Native.Nat.{ℕ, zero, suc, _+_}
-use mathlib.Core.Bool.{Bool, true, false, cond}
-use mathlib.Core.List.{List, [], _∷_, _++_}
+-- its output columns alone. That it gives what the direct run gives is the theorem `on-plan` of proofs/Walks.antt.
+use Prim.Native.Nat.{ℕ, zero, suc}
+use mathlib.Core.Bool.{Bool, cond}
+use mathlib.Core.List.{List}
 use lib.IntN.{pos}
 use lib.ListN.{getD, set, replicate}
 use Rattle.paper.specs.Values.{Val}

@@ -1,0 +1,35 @@
+-- Values stay in the range: what a rule's constants have to keep to for that, and what it says of a row's state.
+use Prim.Native.Nat.{ℕ}
+use mathlib.Core.Path.{_≡_}
+use mathlib.Core.List.{List, List·Memᴰ}
+use lib.IntN.{pos}
+use lib.ListN.{getD}
+use Rattle.paper.specs.Values.{Val, value, settled}
+use Rattle.paper.specs.Rule.{Expr, Const, Var, Neg, Op, Case, Stmt, Set, Emit, Rule, blockOf}
+use Rattle.paper.specs.Direct.{State}
+
+-- the test of the range gives it back
+abbrev pub InRange : Val → Type 0
+InRange z = settled z ≡ value z
+
+abbrev pub AllInRange : List Val → Type 0
+AllInRange xs = (k : ℕ) → InRange (getD xs k (pos 0))
+
+-- each constant that may come out as the expression's value: operators test their results
+unfoldable pub Bounded : Expr → Type 0
+Bounded (Const z) = InRange z
+Bounded (Var k) = Unit {0}
+Bounded (Neg a) = Unit {0}
+Bounded (Op o a b) = Unit {0}
+Bounded (Case c a b) = Bounded a × Bounded b
+
+abbrev pub worked : Stmt → Expr
+worked (Set x a) = a
+worked (Emit a) = a
+
+abbrev pub Constants : Rule → Type 0
+Constants r = (b : ℕ) (x : Stmt) → List·Memᴰ x (blockOf r b .body) → Bounded (worked x)
+
+pub record Ranged (s : State) : Type 0 where
+  pub vars-in : AllInRange (s .vars)
+  pub labels-in : AllInRange (s .labels)
