@@ -165,7 +165,7 @@ pub fn decides(tag: u8, held: bool) -> bool
 // ---- a constant
 
 // The number with these bytes, the lowest first.
-fn joined(a: u8, b: u8, c: u8, d: u8) -> u32
+pub fn joined(a: u8, b: u8, c: u8, d: u8) -> u32
     ensures { λ r. ⌜ r ≡ wordOf a b c d ⌝ }
 {
     (a as u32) + 256 * (b as u32) + 65536 * (c as u32) + 16777216 * (d as u32)

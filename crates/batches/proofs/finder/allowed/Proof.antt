@@ -1,0 +1,38 @@
+-- Each test of the code is one of the definition's, in its order. Assumes nothing.
+use borrow.Author.Needs.{needs}
+use Prim.Native.Nat.{_+_}
+use native.Mathlib.Omega.{arith}
+use borrow.Author.Tests.{lt-ltb, le-ltb, le-leb, lt-leb}
+use Rattle.batches.specs.Limits.{within}
+use Rattle.batches.proofs.Finds.{small}
+use Rattle.batches.proofs.finder.allowed.Statement.{statement}
+use Rattle.batches.proofs.finder.allowed.Tie as tie
+
+returns : tie.Need-returns
+unfolding within
+returns c = simp (le-ltb _ _ (c .if1 .taken))
+
+returns-2 : tie.Need-returns-2
+unfolding within
+returns-2 c = simp (lt-ltb _ _ (c .before .if1 .left), lt-leb _ _ (c .if2 .taken))
+
+returns-3 : tie.Need-returns-3
+unfolding within
+returns-3 c = simp (lt-ltb _ _ (c .before .before .if1 .left), le-leb _ _ (c .before .if2 .left), lt-leb _ _ (c .if3 .taken))
+
+returns-4 : tie.Need-returns-4
+unfolding within
+returns-4 c = simp (lt-ltb _ _ (c .before .before .before .if1 .left), le-leb _ _ (c .before .before .if2 .left), le-leb _ _ (c .before .if3 .left), lt-leb _ _ (c .if4 .taken))
+
+mul-result : tie.Need-mul-result
+mul-result c =
+    let a = c .before .before .before .before .args in
+    omega (arith, small (a .rows) (3 + a .quota) 256 19 (omega arith) (omega arith))
+
+returns-5 : tie.Need-returns-5
+unfolding within
+returns-5 c = simp (lt-ltb _ _ (c .before .before .before .if1 .left), le-leb _ _ (c .before .before .if2 .left), le-leb _ _ (c .before .if3 .left), le-leb _ _ (c .if4 .left))
+
+pub allowed-spec : {M : Type 1} → statement M
+allowed-spec =
+    tie.close (tie.spec returns returns-2 returns-3 returns-4 (λ c. search needs) mul-result returns-5)

@@ -1,0 +1,4 @@
+pub mod Page
+pub mod Writing
+pub mod Reading
+pub mod Trip

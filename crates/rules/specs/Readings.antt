@@ -1,0 +1,25 @@
+-- Readings that the readers share, beside those of the grammar. Assumes nothing: these are definitions.
+use Prim.Native.Nat.{ℕ}
+use mathlib.Core.Bool.{cond, _&&_}
+use mathlib.Core.List.{List}
+use lib.Dec.{ltb, leb, eqb}
+use Rattle.paper.specs.Grammar.{Got, got, refused, then, byteAt}
+use Rattle.rules.specs.declared.exprs.Due.{Due}
+use Rattle.rules.specs.declared.exprs.Due.the-variants.{Tag, Refused}
+
+-- the tag at a place where so many levels may still stand: 9 goes before 8
+abbrev pub tagAt : ℕ → List ℕ → ℕ → Got ℕ
+tagAt left s at = then (byteAt s at) (λ t n. cond (eqb left 0) (refused 8 at) (got t n))
+
+-- the answer of the code for each case
+unfoldable pub dueOf : Got ℕ → Due
+dueOf (got t n) = Tag t
+dueOf (refused k p) = Refused (record { number = k; place = p })
+
+-- a byte from low on and below high; else a refusal with the number
+abbrev pub amongAt : ℕ → ℕ → ℕ → List ℕ → ℕ → Got ℕ
+amongAt low high number s at = then (byteAt s at) (λ k n. cond (leb low k && ltb k high) (got k n) (refused number at))
+
+-- two of a kind, of which the first is passed over
+abbrev pub second : {A : Type 0} → (ℕ → Got A) → ℕ → Got A
+second read at = then (read at) (λ _ n. read n)
