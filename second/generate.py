@@ -1,0 +1,92 @@
+"""Makes a request stream from a seed: python3 second/generate.py SEED COUNT > stream"""
+
+import sys
+
+import calls
+from dice import Dice
+from files import pages_of
+from make_damage import damaged_file, damaged_rule, overlong_rule
+from make_finds import find_request
+from make_rules import any_rule, small_rule, stretched
+from make_runs import endless, ends_late, full_batch, overlong_carried, run_request
+from refusal import Refusal
+from rule import LONGEST_RULE
+from stream import COMPILE, LARGEST, READ, WRITE, Bytes, encode, numbers
+
+
+def read_request(dice):
+    return with_room(dice, READ, calls.read, some_file(dice))
+
+
+def write_request(dice):
+    rule = any_rule(dice)
+    if dice.one_in(60):
+        rule = overlong_rule(dice, rule)
+    if dice.one_in(2):
+        rule = damaged_rule(dice, rule)
+    return with_room(dice, WRITE, calls.write, rule)
+
+
+def compile_request(dice):
+    return with_room(dice, COMPILE, calls.compile, some_file(dice))
+
+
+def some_file(dice):
+    """A good file, one with a damaged rule in sound pages, or one with damaged pages."""
+    rule = any_rule(dice)
+    if dice.one_in(3):
+        return pages_of(damaged_rule(dice, rule))
+    file = pages_of(rule)
+    return damaged_file(dice, file) if dice.one_in(2) else file
+
+
+def with_room(dice, kind, call, data):
+    """Just enough room mostly, for what is refused a little: the answer shows all of it."""
+    try:
+        size = call(data, bytearray(LARGEST))
+    except Refusal:
+        return Bytes(kind, dice.below(9), data)
+    if dice.one_in(200):
+        return Bytes(kind, LARGEST, data)
+    rooms = ((6, size), (2, size + dice.below(9)), (2, size - 1), (1, dice.below(size)), (1, 0))
+    return Bytes(kind, dice.weighted(rooms), data)
+
+
+def bad_tail(dice):
+    """A request that ends the stream: cut short, of no known kind, or too large."""
+    whole = encode(dice.weighted(REQUESTS)(dice))
+    too_large = numbers(WRITE, LARGEST + 1, 0)
+    return dice.pick((whole[:-1], whole[:3], whole[:4], numbers(0), numbers(6), too_large))
+
+
+def longest(kind):
+    """A maker of requests on a rule of the greatest length, with room for whatever comes of it."""
+    def make(dice):
+        rule = stretched(dice, small_rule(dice), LONGEST_RULE)
+        return Bytes(kind, 5000, rule if kind == WRITE else pages_of(rule))
+    return make
+
+
+# What chance might leave out of a stream comes at its start.
+OPENING = (longest(READ), longest(WRITE), longest(COMPILE), full_batch, endless, ends_late, overlong_carried)
+REQUESTS = ((3, read_request), (4, write_request), (3, compile_request), (9, run_request), (6, find_request))
+
+
+def stream(seed, count):
+    """Even seeds get a bad tail, as that cannot be tried more than once in a stream."""
+    dice = Dice(seed)
+    for turn in range(count):
+        make = OPENING[turn] if turn < len(OPENING) else dice.weighted(REQUESTS)
+        yield encode(make(dice))
+    if seed % 2 == 0:
+        yield bad_tail(dice)
+
+
+def main():
+    seed, count = map(int, sys.argv[1:])
+    for request in stream(seed, count):
+        sys.stdout.buffer.write(request)
+
+
+if __name__ == "__main__":
+    main()

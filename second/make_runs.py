@@ -1,0 +1,119 @@
+"""Run requests: good ones, and good ones with one or two things put wrong."""
+
+from calls import MOST_LABELS, MOST_ROUNDS, MOST_ROWS, line_size, record_size
+from direct import LEAST
+from make_damage import damaged_plan, overlong_plan
+from make_rules import CORNERS, any_rule, corner_sums, forever, number, small_rule, tick
+from plan import accept, compile_rule
+from stream import Run
+
+HUGE = 2**32 - 1
+
+
+def good_run(dice):
+    """Few rows and rounds mostly; the large kinds are rare, as they are long in stream and time."""
+    make = dice.weighted(((100, few_rows), (30, corner_rows), (4, full_batch), (1, endless), (1, ends_late)))
+    return make(dice)
+
+
+def few_rows(dice):
+    rule = any_rule(dice)
+    rows, budget = dice.pick((0, 1, 1, 2, 3, 4, 5, 6)), dice.pick((0, 1, 2, 2, 3, 4, 6, 9, 13, 40))
+    return roomy_run(dice, rule, rows, budget, some_values(dice, rows * rule[2]))
+
+
+def corner_rows(dice):
+    """Any two corner values, and often the two pairs that division is known for."""
+    rows = dice.between(1, 8)
+    values = []
+    for _ in range(rows):
+        pair = (dice.pick(CORNERS), dice.pick(CORNERS))
+        values += dice.pick((pair, pair, (LEAST, -1), (dice.pick(CORNERS), 0)))
+    return roomy_run(dice, corner_sums(dice), rows, 1, values)
+
+
+def full_batch(dice):
+    rule = small_rule(dice)
+    rows = dice.pick((MOST_ROWS, MOST_ROWS, 100))
+    return roomy_run(dice, rule, rows, dice.pick((0, 1, 2, 7)), some_values(dice, rows * rule[2]))
+
+
+def endless(dice):
+    """The greatest budget, and a loop that uses it up."""
+    rule = forever(dice)
+    return roomy_run(dice, rule, 1, MOST_ROUNDS, [dice.between(0, 9) for _ in range(rule[2])])
+
+
+def ends_late(dice):
+    """The greatest budget, and rows that end in its last round, one too late, and early."""
+    return roomy_run(dice, tick(dice), 3, MOST_ROUNDS, [MOST_ROUNDS - 1, MOST_ROUNDS, dice.between(0, 9)])
+
+
+def overlong_carried(dice):
+    run = few_rows(dice)
+    return run._replace(plan=overlong_plan(dice, run.plan))
+
+
+def some_values(dice, count):
+    """Small numbers, as the count-downs need, among all others."""
+    return [number(dice) if dice.one_in(3) else dice.between(-2, 12) for _ in range(count)]
+
+
+def roomy_run(dice, rule, rows, budget, values):
+    """A run with exactly the room it needs."""
+    plan, quota = compile_rule(rule), dice.pick((0, 1, 2, 3, 4, 5, 16))
+    _, loop = accept(plan)
+    return Run(rows, budget, quota, rows * record_size(quota), rows * line_size(len(loop)), plan, values)
+
+
+def too_many_rows(dice, run):
+    """With values that fit and values that do not; the products that wrap to 0 are the cunning ones."""
+    arguments = run.plan[2]
+    rows = dice.pick((MOST_ROWS + 1, MOST_ROWS + 1, 300, HUGE, 2**31, 2**30, 2**28))
+    fitting = rows * arguments % 2**32
+    return run._replace(rows=rows, values=[1] * fitting if fitting < 600 else run.values)
+
+
+def wrong_values(dice, run):
+    return run._replace(values=dice.pick((run.values + [0], run.values[:-1], [], run.values * 2)))
+
+
+def budget_too_high(dice, run):
+    return run._replace(budget=dice.pick((MOST_ROUNDS + 1, 2**31, HUGE)))
+
+
+def quota_too_high(dice, run):
+    return run._replace(quota=dice.pick((MOST_LABELS + 1, 2**31, HUGE - 2, HUGE)))
+
+
+def small_result(dice, run):
+    return run._replace(result_room=max(run.result_room - dice.pick((1, 1, 2, run.result_room)), 0))
+
+
+def small_working(dice, run):
+    return run._replace(working_room=max(run.working_room - dice.pick((1, 1, 2, run.working_room)), 0))
+
+
+def more_room(dice, run):
+    """No fault at all: shows that the words beyond stay as they are."""
+    return run._replace(result_room=run.result_room + dice.below(4),
+                         working_room=run.working_room + dice.below(4))
+
+
+def bad_plan(dice, run):
+    return run._replace(plan=damaged_plan(dice, run.plan))
+
+
+WRONGS = (too_many_rows, wrong_values, budget_too_high, quota_too_high, small_result, small_working, bad_plan)
+
+
+def run_request(dice):
+    """Two wrongs at once show which of them is answered."""
+    run = good_run(dice)
+    if dice.one_in(2):
+        return more_room(dice, run) if dice.one_in(2) else run
+    # The plan goes last, as the others look into it.
+    chosen = sorted({dice.below(len(WRONGS)) for _ in range(dice.pick((1, 1, 2)))})
+    for wrong in chosen:
+        run = WRONGS[wrong](dice, run)
+    return run

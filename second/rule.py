@@ -1,0 +1,150 @@
+"""The grammar of a rule: bytes in, a tree out, or a refusal with its place.
+
+A node is a tuple: its tag, then its parts in the order of the bytes. A part is again a node, or a
+plain number (a constant, a variable or a block).
+"""
+
+from typing import NamedTuple
+
+from refusal import Refusal
+
+LONGEST_RULE = 4064
+HEADER_SIZE = 4
+
+CONSTANT, VARIABLE, NEGATE, ADD, SUBTRACT, MULTIPLY, DIVIDE, REMAINDER, CASE = range(0x01, 0x0A)
+LESS, EQUAL, NOT, AND, OR = range(0x10, 0x15)
+SET, EMIT = range(0x20, 0x22)
+GOTO, JUMP, STOP, IF = range(0x30, 0x34)
+
+TAGS = {
+    "expression": range(CONSTANT, CASE + 1),
+    "condition": range(LESS, OR + 1),
+    "ending": range(GOTO, IF + 1),
+    # What may come next in a block: one more statement, or its ending.
+    "step": (SET, EMIT, GOTO, JUMP, STOP, IF),
+}
+DEEPEST = {"expression": 8, "condition": 8, "ending": 4, "step": 1}
+VALUES = ("expression", "condition")
+
+PARTS = {
+    CONSTANT: ("constant",),
+    VARIABLE: ("variable",),
+    NEGATE: ("expression",),
+    ADD: ("expression", "expression"),
+    SUBTRACT: ("expression", "expression"),
+    MULTIPLY: ("expression", "expression"),
+    DIVIDE: ("expression", "expression"),
+    REMAINDER: ("expression", "expression"),
+    CASE: ("condition", "expression", "expression"),
+    LESS: ("expression", "expression"),
+    EQUAL: ("expression", "expression"),
+    NOT: ("condition",),
+    AND: ("condition", "condition"),
+    OR: ("condition", "condition"),
+    SET: ("variable", "expression"),
+    EMIT: ("expression",),
+    GOTO: ("later block",),
+    JUMP: ("any block",),
+    STOP: (),
+    IF: ("condition", "ending", "ending"),
+}
+
+
+class Block(NamedTuple):
+    start: int  # offset of its first byte in the rule
+    statements: list
+    ending: tuple
+
+
+class Rule(NamedTuple):
+    variables: int
+    arguments: int
+    blocks: list
+
+
+def parse(rule):
+    """The tree of a rule; the limit on its length is the callers' own."""
+    check_header(rule)
+    _, variables, arguments, count = rule[:HEADER_SIZE]
+    reader = Reader(rule)
+    blocks = [reader.block(number) for number in range(count)]
+    if reader.at < len(rule):
+        raise Refusal(10, reader.at)
+    return Rule(variables, arguments, blocks)
+
+
+def check_header(rule):
+    if len(rule) < HEADER_SIZE:
+        raise Refusal(9, len(rule))
+    form, variables, arguments, blocks = rule[:HEADER_SIZE]
+    allowed = (form == 1, 1 <= variables <= 16, arguments <= variables, 1 <= blocks <= 64)
+    if not all(allowed):
+        raise Refusal(4, allowed.index(False))
+
+
+class Reader:
+    """Walks over the bytes of a rule from the left, with a good header behind it."""
+
+    def __init__(self, rule):
+        self.rule = rule
+        self.at = HEADER_SIZE
+        self.block_number = 0
+        self.leaves = {
+            "constant": self.constant,
+            "variable": self.variable,
+            "later block": self.later_block,
+            "any block": self.any_block,
+        }
+
+    def block(self, number):
+        self.block_number = number
+        start = self.at
+        statements = []
+        step = self.node("step", 1)
+        while step[0] in (SET, EMIT):
+            statements.append(step)
+            step = self.node("step", 1)
+        return Block(start, statements, step)
+
+    def node(self, kind, depth):
+        """The node whose tag is due here; the order of the three checks is the order of replies."""
+        if self.at == len(self.rule):
+            raise Refusal(9, len(self.rule))
+        if depth > DEEPEST[kind]:
+            raise Refusal(8, self.at)
+        tag = self.rule[self.at]
+        if tag not in TAGS[kind]:
+            raise Refusal(5, self.at)
+        self.at += 1
+        return (tag, *[self.part(part, kind, depth) for part in PARTS[tag]])
+
+    def part(self, kind, outer, depth):
+        if kind in self.leaves:
+            return self.leaves[kind]()
+        # Each statement and each if starts its own count for what it works out.
+        afresh = kind in VALUES and outer not in VALUES
+        return self.node(kind, 1 if afresh else depth + 1)
+
+    def take(self, count):
+        if self.at + count > len(self.rule):
+            raise Refusal(9, len(self.rule))
+        self.at += count
+        return self.rule[self.at - count:self.at]
+
+    def constant(self):
+        return int.from_bytes(self.take(4), "little", signed=True)
+
+    def variable(self):
+        return self.number_in(range(self.rule[1]), 6)
+
+    def later_block(self):
+        return self.number_in(range(self.block_number + 1, self.rule[3]), 7)
+
+    def any_block(self):
+        return self.number_in(range(self.rule[3]), 7)
+
+    def number_in(self, allowed, refusal):
+        number = self.take(1)[0]
+        if number not in allowed:
+            raise Refusal(refusal, self.at - 1)
+        return number
