@@ -4,8 +4,8 @@ use Prim.Native.Nat.{ℕ, zero, suc, _+_, _-_, _*_, _%_, _≤_, _<_}
 use native.Mathlib.Nat.{zero-sub, suc-sub-suc, sub-zero}
 use native.Mathlib.Omega.{arith}
 use mathlib.Core.List.{List, [], _∷_, _++_, append-assoc}
-use lib.ListN.{length, take, drop, replicate, length-append, length-replicate, replicate-append-replicate, List·getD-append}
-use lib.Seq.{take-at, drop-at, drop-append-add}
+use lib.ListN.{length, drop, replicate, length-append, length-replicate, replicate-append-replicate, List·getD-append}
+use lib.Seq.{take-at, drop-append-add}
 use Rattle.paper.specs.Plan.{le16}
 use Rattle.paper.specs.Pages.{wordSum, checkOf, pageBody, pageOf}
 use Rattle.words.specs.Words.{over}

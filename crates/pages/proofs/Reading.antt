@@ -1,7 +1,7 @@
 -- Laws of a file as it is read: one page, the pages before it, the whole. Assumes nothing.
 use mathlib.Core.Path.{_≡_, refl, sym, ap, _∙_, subst}
 use Prim.Native.Nat.{ℕ, zero, suc, _+_, _-_, _*_, _/_, _%_, _≤_, _<_}
-use native.Mathlib.Nat.{add-zero, add-suc, add-sub-of-le, le-of-eq, min-le-left}
+use native.Mathlib.Nat.{add-zero, add-suc, add-sub-of-le, min-le-left}
 use native.Mathlib.Omega.{arith}
 use native.Mathlib.Numerals.{add-one}
 use mathlib.Core.Bool.{Bool, true, false, not, cond, _&&_}
@@ -9,7 +9,7 @@ use mathlib.Core.List.{List, [], _++_}
 use lib.ListN.{length, take, drop, getD, length-append, length-take, length-drop, drop-of-length-le}
 use lib.Seq.{slice-cons, length-take-le}
 use lib.Dec.{leb, ltb, eqb}
-use borrow.Author.Tests.{eq-eqb, ne-eqb, eqb-true, leb-true, ltb-false, eqb-false, lt-leb, le-leb, lt-ltb, le-ltb, not-true}
+use borrow.Author.Tests.{eq-eqb, ne-eqb, eqb-true, leb-true, ltb-false, eqb-false, lt-leb, le-leb, not-true}
 use Rattle.paper.specs.declared.Refusal.{Refusal}
 use Rattle.paper.specs.declared.Reply.the-variants.{Done, Refused}
 use Rattle.paper.specs.Grammar.{Got, got, refused, then}
@@ -18,6 +18,7 @@ use Rattle.paper.specs.Pages.{wordAt, checkOf, pageIn, payloadOf, allZero, leng
 use Rattle.words.specs.Words.{over}
 use Rattle.words.proofs.Laws.{over-start, over-next}
 use Rattle.pages.specs.Answers.{scanOf, held, Fits}
+use Rattle.pages.specs.Refusals.{Page, Good}
 
 -- ---- the filler
 
@@ -93,6 +94,13 @@ unfolding scanOf held
 scan-got (got xs m) n h = (refl, cc)
 scan-got (refused k p) n h = let z : _≡_ {A = ℕ} 0 1 = cc in absurd (omega arith)
 
+pub scan-refused : (g : Got (List ℕ)) (w : Refusal) → scanOf g ≡ Refused w → g ≡ refused (w .number) (w .place)
+unfolding scanOf
+scan-refused (got xs m) w h = let z : _≡_ {A = ℕ} 0 1 = cc in absurd (omega arith)
+scan-refused (refused k p) w h =
+    let e : record { number = k; place = p } ≡ w = cc in
+    rw (← e)
+
 pub scan-fits : (g : Got (List ℕ)) (n room : ℕ) → scanOf g ≡ Done n → n ≤ room → Fits g room
 unfolding scanOf Fits
 scan-fits (got xs m) n room h l = let e : length xs ≡ n = cc in omega arith
@@ -104,12 +112,6 @@ fits-got (got xs m) room h = (refl, h)
 fits-got (refused k p) room h = absurd h
 
 -- ---- what `scan_page` answers
-
--- a page that is accepted
-pub record Page (last : Bool) (p : List ℕ) (k : ℕ) : Type 0 where
-  pub check : wordAt p 510 ≡ checkOf k p
-  pub size : lengthOk last (wordAt p 0) ≡ true
-  pub filler : fillerOk p ≡ true
 
 pub absurd-got : {C : Type 0} {A : Type 0} {a : A} {n k p : ℕ} → refused k p ≡ got a n → C
 absurd-got h = let z : _≡_ {A = ℕ} 0 1 = cc in absurd (omega arith)
@@ -133,15 +135,24 @@ module _ (last : Bool) (p : List ℕ) (k : ℕ) where
       go true false c ea eb ec h = absurd-got h
       go false b c ea eb ec h = absurd-got h
 
+  pub bad-check : (wordAt p 510 ≡ checkOf k p → ⊥) → pageAt last p k ≡ refused 2 k
+  unfolding pageAt
+  bad-check h = rw (ne-eqb (wordAt p 510) (checkOf k p) h)
+
+  pub bad-form : wordAt p 510 ≡ checkOf k p → (lengthOk last (wordAt p 0) && fillerOk p) ≡ false → pageAt last p k ≡ refused 3 k
+  unfolding pageAt
+  bad-form e h = rw (eq-eqb (wordAt p 510) (checkOf k p) e, h)
+
+  -- the same as `scan_page` has it: a and b are the check as it stands and as it should be, n is the length
   module _ (a b n : ℕ) (ea : a ≡ wordAt p 510) (eb : b ≡ checkOf k p) where
     pub page-2 : (a ≡ b → ⊥) → Refused (record { number = 2; place = k }) ≡ scanOf (pageAt last p k)
-    unfolding pageAt scanOf
-    page-2 h = rw (ne-eqb (wordAt p 510) (checkOf k p) (λ e. h (ea ∙ e ∙ sym eb)))
+    unfolding scanOf
+    page-2 h = sym (ap scanOf (bad-check (λ e. h (ea ∙ e ∙ sym eb))))
 
     module _ (e : a ≡ b) (en : n ≡ wordAt p 0) where
       pub page-3 : (lengthOk last n && fillerOk p) ≡ false → Refused (record { number = 3; place = k }) ≡ scanOf (pageAt last p k)
-      unfolding pageAt scanOf
-      page-3 h = rw (eq-eqb (wordAt p 510) (checkOf k p) (sym ea ∙ e ∙ eb), rw en at h)
+      unfolding scanOf
+      page-3 h = sym (ap scanOf (bad-form (sym ea ∙ e ∙ eb) (rw en at h)))
 
       pub page-done : length p ≡ 512 → lengthOk last n ≡ true → fillerOk p ≡ true → Done n ≡ scanOf (pageAt last p k)
       unfolding scanOf
@@ -172,17 +183,6 @@ scan-on (got xs a) (got ys b) t n e f =
 scan-on (got xs a) (refused k p) t n e f = let z : _≡_ {A = ℕ} 0 1 = cc in absurd (omega arith)
 scan-on (refused k p) h t n e f = let z : _≡_ {A = ℕ} 0 1 = cc in absurd (omega arith)
 
-scan-off : (g h : Got (List ℕ)) (t : ℕ) (w : Refusal) → scanOf g ≡ Done t → scanOf h ≡ Refused w → scanOf (joined g h) ≡ Refused w
-unfolding scanOf
-scan-off (got xs a) (got ys b) t w e f = let z : _≡_ {A = ℕ} 0 1 = cc in absurd (omega arith)
-scan-off (got xs a) (refused k p) t w e f = f
-scan-off (refused k p) h t w e f = let z : _≡_ {A = ℕ} 0 1 = cc in absurd (omega arith)
-
-scan-stays : (g h : Got (List ℕ)) (w : Refusal) → scanOf g ≡ Refused w → scanOf (joined g h) ≡ Refused w
-unfolding scanOf
-scan-stays (got xs a) h w e = let z : _≡_ {A = ℕ} 0 1 = cc in absurd (omega arith)
-scan-stays (refused k p) h w e = e
-
 record Joined (g h : Got (List ℕ)) (room : ℕ) : Type 0 where
   first : Fits g room
   second : Fits h room
@@ -211,18 +211,23 @@ module _ (file : List ℕ) (P : ℕ) where
   turn-on k t n p ep e f =
       rw (payload-more k) (scan-on (payloadTo file P k) (pageAt (eqb (k + 1) P) (pageIn file k) k) t n e (sym (rw ep at f)))
 
-  stays : (k d : ℕ) (w : Refusal) → scanOf (payloadTo file P k) ≡ Refused w → scanOf (payloadTo file P (k + d)) ≡ Refused w
-  stays k zero w s = rw add-zero s
-  stays k (suc d) w s =
-      rw (add-suc, ← add-one, payload-more (k + d)) (scan-stays (payloadTo file P (k + d)) (pageAt (eqb (k + d + 1) P) (pageIn file (k + d)) (k + d)) w (stays k d w s))
+  stays : (k d i j : ℕ) → payloadTo file P k ≡ refused i j → payloadTo file P (k + d) ≡ refused i j
+  stays k zero i j s = rw add-zero s
+  stays k (suc d) i j s = rw (add-suc, ← add-one, payload-more (k + d), stays k d i j s)
 
-  -- a turn that ends with a refusal, which then stands for the whole
+  -- the first page that is refused decides
+  pub off : (k i j : ℕ) (xs : List ℕ) (n : ℕ) → k < P → payloadTo file P k ≡ got xs n → pageAt (eqb (k + 1) P) (pageIn file k) k ≡ refused i j → payloadTo file P P ≡ refused i j
+  off k i j xs n h e f =
+      subst (λ (m : ℕ). payloadTo file P m ≡ refused i j) (add-sub-of-le {n = P} {m = k + 1} (omega arith)) (stays (k + 1) (P - (k + 1)) i j (payload-more k ∙ rw (e, f)))
+
+  -- a turn that ends with a refusal
   pub turn-off : (k t : ℕ) (w : Refusal) (p : List ℕ) → k < P → p ≡ pageIn file k → scanOf (payloadTo file P k) ≡ Done t → Refused w ≡ scanOf (pageAt (eqb (k + 1) P) p k)
       → Refused w ≡ scanOf (payloadTo file P P)
+  unfolding scanOf
   turn-off k t w p h ep e f =
-      let here : scanOf (payloadTo file P (k + 1)) ≡ Refused w =
-      rw (payload-more k) (scan-off (payloadTo file P k) (pageAt (eqb (k + 1) P) (pageIn file k) k) t w e (sym (rw ep at f))) in
-      sym (subst (λ (m : ℕ). scanOf (payloadTo file P m) ≡ Refused w) (add-sub-of-le {n = P} {m = k + 1} (omega arith)) (stays (k + 1) (P - (k + 1)) w here))
+      let g = payloadTo file P k in
+      let r = scan-refused (pageAt (eqb (k + 1) P) (pageIn file k) k) w (sym (rw ep at f)) in
+      sym (ap scanOf (off k (w .number) (w .place) (held g) (endOf g) h (scan-got g t e .0) r))
 
   fits-before : (k d room : ℕ) → Fits (payloadTo file P (k + d)) room → Fits (payloadTo file P k) room
   fits-before k zero room h = rw add-zero at h
@@ -230,32 +235,32 @@ module _ (file : List ℕ) (P : ℕ) where
       let h′ : Fits (payloadTo file P (k + d + 1)) room = rw (add-suc, ← add-one) at h in
       fits-before k d room (fits-joined (payloadTo file P (k + d)) (pageAt (eqb (k + d + 1) P) (pageIn file (k + d)) (k + d)) room (rw (payload-more (k + d)) at h′) .first)
 
-  pub fits-to : (k room : ℕ) → k ≤ P → Fits (payloadTo file P P) room → Fits (payloadTo file P k) room
-  fits-to k room h f = fits-before k (P - k) room (subst (λ (m : ℕ). Fits (payloadTo file P m) room) (sym (add-sub-of-le {n = P} {m = k} h)) f)
+  fits-to : (k n room : ℕ) → k ≤ n → Fits (payloadTo file P n) room → Fits (payloadTo file P k) room
+  fits-to k n room h f = fits-before k (n - k) room (subst (λ (m : ℕ). Fits (payloadTo file P m) room) (sym (add-sub-of-le {n = n} {m = k} h)) f)
 
-  -- a page of a file that is accepted
-  within : (k room : ℕ) → k < P → Fits (payloadTo file P P) room → Page (eqb (k + 1) P) (pageIn file k) k
-  within k room h f =
+  -- pages that are accepted
+  pub within : (n room : ℕ) → Fits (payloadTo file P n) room → Good file P n
+  within n room f k h =
       let g = pageAt (eqb (k + 1) P) (pageIn file k) k in
-      let j = fits-joined (payloadTo file P k) g room (rw (payload-more k) at (fits-to (k + 1) room (omega arith) f)) in
+      let j = fits-joined (payloadTo file P k) g room (rw (payload-more k) at (fits-to (k + 1) n room (omega arith) f)) in
       got-page (eqb (k + 1) P) (pageIn file k) k (held g) (endOf g) (fits-got g room (j .second) .0)
 
   -- a turn of `unpack`: p is the page, and part what it holds
   module _ (k room : ℕ) (h : k < P) (f : Fits (payloadTo file P P) room) (p : List ℕ) (ep : p ≡ pageIn file k) where
     pub turn-short : wordAt p 0 ≤ 508
-    turn-short = rw ep (page-short (eqb (k + 1) P) (pageIn file k) k (within k room h f))
+    turn-short = rw ep (page-short (eqb (k + 1) P) (pageIn file k) k (within P room f k h))
 
     module _ (part : List ℕ) (ea : part ≡ payloadOf p) where
       pub turn-more : held (payloadTo file P (k + 1)) ≡ held (payloadTo file P k) ++ part
       unfolding held
       turn-more =
-          let e = page-got (eqb (k + 1) P) (pageIn file k) k (within k room h f) in
-          let j = fits-joined (payloadTo file P k) (pageAt (eqb (k + 1) P) (pageIn file k) k) room (rw (payload-more k) at (fits-to (k + 1) room (omega arith) f)) in
+          let e = page-got (eqb (k + 1) P) (pageIn file k) k (within P room f k h) in
+          let j = fits-joined (payloadTo file P k) (pageAt (eqb (k + 1) P) (pageIn file k) k) room (rw (payload-more k) at (fits-to (k + 1) P room (omega arith) f)) in
           ap held (payload-more k) ∙ j .both ∙ rw (e, ea, ep)
 
       pub turn-fits : length (held (payloadTo file P k)) + length part ≤ room
       turn-fits =
-          omega (arith, fits-got (payloadTo file P (k + 1)) room (fits-to (k + 1) room (omega arith) f) .1, ap length turn-more ∙ length-append (held (payloadTo file P k)) part)
+          omega (arith, fits-got (payloadTo file P (k + 1)) room (fits-to (k + 1) P room (omega arith) f) .1, ap length turn-more ∙ length-append (held (payloadTo file P k)) part)
 
       pub turn-over : (out₀ out out′ : List ℕ) (at : ℕ) → room ≡ length out₀ → at ≡ length (held (payloadTo file P k)) → out ≡ over out₀ 0 (held (payloadTo file P k)) → out′ ≡ over out at part
           → out′ ≡ over out₀ 0 (held (payloadTo file P (k + 1)))

@@ -1,22 +1,23 @@
 -- Both round trips: what is written is read back, and what is read is written back. Assumes nothing.
-use mathlib.Core.Path.{_≡_, refl, sym, ap, _∙_, subst}
+use mathlib.Core.Path.{_≡_, refl, sym, ap, _∙_}
 use mathlib.Core.Logic.{⊎-elim}
 use Prim.Native.Nat.{ℕ, zero, suc, _+_, _-_, _*_, _/_, _%_, _≤_, _<_}
 use native.Mathlib.Nat.{eq-or-lt-of-le, le-of-suc-le-suc, min-eq-left, min-eq-right, add-comm}
 use native.Mathlib.Omega.{arith}
 use native.Mathlib.Numerals.{add-one}
-use mathlib.Core.Bool.{Bool, true, false, not, _&&_}
+use mathlib.Core.Bool.{Bool, true}
 use mathlib.Core.List.{List, [], _∷_, _++_, append-assoc}
 use lib.ListN.{length, take, drop, getD, replicate, length-append, length-take, length-drop, take-append-drop}
-use lib.Seq.{take-all, take-take, take-at, drop-at, getD-at, getD-take, getD-drop, getD-append-add, take-append-le, drop-append-le, drop-drop, take-add, drop-cons, length-take-le}
-use lib.Dec.{leb, ltb, eqb}
-use borrow.Author.Tests.{eq-eqb, ne-eqb, le-leb, le-ltb, eqb-true, leb-true, eqb-false}
-use Rattle.paper.specs.Grammar.{Got, got, refused, then}
+use lib.Seq.{take-all, take-take, take-at, drop-at, getD-drop, getD-append-add, take-append-le, drop-append-le, drop-drop, take-add, drop-cons, length-take-le}
+use lib.Dec.{eqb}
+use borrow.Author.Tests.{eq-eqb, ne-eqb, le-leb, le-ltb, eqb-true}
+use Rattle.paper.specs.Grammar.{Got, got, refused}
 use Rattle.paper.specs.Plan.{le16}
-use Rattle.paper.specs.Pages.{wordAt, checkOf, pageBody, pageOf, pagesFor, pieceOf, pagesTo, fileOf, pageIn, payloadOf, allZero, lengthOk, fillerOk, sizeOk, pageAt, payloadTo, unpacked}
+use Rattle.paper.specs.Pages.{wordAt, checkOf, pageBody, pageOf, pagesFor, pieceOf, pagesTo, fileOf, pageIn, payloadOf, allZero, lengthOk, fillerOk, pageAt, payloadTo, unpacked}
+use Rattle.pages.specs.Refusals.{Page}
 use Rattle.pages.proofs.Page.{checkOf-append, length-body, length-page}
 use Rattle.pages.proofs.Writing.{piece-le, length-pagesTo, length-file}
-use Rattle.pages.proofs.Reading.{and-left, and-right, length-some, length-not-last, absurd-got, joined, got-size, size-is, Page, page-got, got-page, page-short, length-pageIn, length-payload, payload-more, whole}
+use Rattle.pages.proofs.Reading.{and-left, and-right, length-some, length-not-last, absurd-got, joined, got-size, size-is, page-got, got-page, page-short, length-pageIn, length-payload, whole}
 
 -- ---- a page that was written, as it is read
 

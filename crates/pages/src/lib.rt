@@ -1,7 +1,7 @@
 // A rule's bytes to a file of pages, and back.
 ghost use mathlib.Core.Path.{_≡_};
 ghost use mathlib.Core.List.{_++_};
-ghost use Prim.Native.Nat.{_+_, _*_, _/_, _≤_, _<_};
+ghost use Prim.Native.Nat.{_+_, _*_, _≤_, _<_};
 ghost use lib.ListN.{length, drop};
 ghost use Rattle.paper.specs.Pages.{wordAt, checkOf, pageOf, pagesFor, pieceOf, fileOf, pageIn, payloadOf, fillerOk, lengthOk, sizeOk, pageAt, payloadTo, unpacked};
 ghost use Rattle.pages.specs.Answers.{scanOf, held, Fits};
