@@ -4,11 +4,11 @@ use native.Mathlib.Numerals.{sub-one}
 use native.Mathlib.Omega.{arith}
 use mathlib.Core.Logic.{_⊎_, inl, inr}
 use mathlib.Core.Path.{_≡_, refl, sym, ap, _∙_}
-use mathlib.Core.Bool.{Bool, true, false, cond, _&&_}
+use mathlib.Core.Bool.{Bool, true, false, cond}
 use mathlib.Core.List.{List}
-use lib.Dec.{ltb, leb, eqb, eqb·suc-zero}
+use lib.Dec.{ltb, eqb, eqb·suc-zero}
 use lib.ListN.{length, getD}
-use borrow.Author.Tests.{ltb-true, eqb-true, eqb-false, lt-ltb, ne-eqb}
+use borrow.Author.Tests.{ltb-true, eqb-true, eqb-false, ne-eqb}
 use Rattle.paper.specs.Rule.{Operator, Add, Subtract, Multiply, Divide, Remainder, Relation, Less, Equal, Joint, And, Or}
 use Rattle.paper.specs.Rule.{Expr, Cond, Const, Var, Neg, Op, Case, Compare, Not, Join}
 use Rattle.paper.specs.Grammar.{Got, got, refused, then, readOf, byteAt, one, two, constantAt, variableAt, exprAt, condAt, exprBody, condBody, exprTag, condTag}
@@ -58,6 +58,17 @@ two-made {A = A} f p at = go (p at)
     go (got a n) = made (f a) (p n)
     go (refused k q) = refl
 
+-- one, or two of a kind, after something else
+pub then-one : {A B C : Type 0} (f : A → B → C) (p : Got A) (q : ℕ → Got B) → readOf (then p (λ a n. one (f a) q n)) ≡ readOf (then p (λ _ n. q n))
+unfolding readOf
+then-one f (got a n) q = made (f a) (q n)
+then-one f (refused k p) q = refl
+
+pub then-two : {A B C : Type 0} (f : A → B → B → C) (p : Got A) (q : ℕ → Got B) → readOf (then p (λ a n. two (f a) q n)) ≡ readOf (then p (λ _ n. second q n))
+unfolding readOf
+then-two f (got a n) q = two-made (f a) q n
+then-two f (refused k p) q = refl
+
 -- ---- the tag that is due
 -- where it is there, a level reads on by it
 pub by-tag : {A : Type 0} (p : Got ℕ) (f : ℕ → Got A) (t : ℕ) → dueOf p ≡ due.Tag t → then p (λ t _. f t) ≡ f t
@@ -86,7 +97,7 @@ module _ (left : ℕ) (s : List ℕ) (at : ℕ) where
       go false b p q e = let z : _≡_ {A = ℕ} 0 1 = cc in absurd (omega arith)
 
 -- what reads by levels, X, reads the tag that is due and goes on by it with one level less
-levelled :
+pub levelled :
     {A : Type 0} (left : ℕ) (s : List ℕ) (at : ℕ) (X : ℕ → Got A) (f : ℕ → ℕ → Got A) →
     X 0 ≡ then (byteAt s at) (λ t _. refused 8 at) → ((d : ℕ) → X (suc d) ≡ then (byteAt s at) (λ t _. f d t)) →
     X left ≡ then (tagAt left s at) (λ t _. f (left - 1) t)
@@ -177,11 +188,7 @@ module _ (left v : ℕ) (s : List ℕ) (at : ℕ) where
         expr-by (opTag (o .0)) (ap exprTag q ∙ o .1) (e ∙ sym (two-made (Op (o .0)) E (at + 1)))
 
     pub expr-case : tag ≡ 0x09 → r ≡ readOf (then (C (at + 1)) (λ _ n. second E n)) → r ≡ readOf (exprAt left v s at)
-    expr-case i e = expr-by caseTag (ap exprTag i) (go (C (at + 1)) e)
-      where
-        go : (p : Got Cond) → r ≡ readOf (then p (λ _ n. second E n)) → r ≡ readOf (then p (λ c n. two (Case c) E n))
-        go (got c n) e = e ∙ sym (two-made (Case c) E n)
-        go (refused k q) e = e
+    expr-case i e = expr-by caseTag (ap exprTag i) (e ∙ sym (then-two Case (C (at + 1)) E))
 
     pub expr-bad : (tag < 1) ⊎ (9 < tag) → r ≡ Refused (record { number = 5; place = at }) → r ≡ readOf (exprAt left v s at)
     unfolding readOf

@@ -1,5 +1,6 @@
 // Readers of expressions and conditions: where what stands at a place ends, or why it is refused.
-use paper::{Read, Refusal};
+use paper::Read;
+use paper::Refusal;
 ghost use mathlib.Core.Path.{_≡_};
 ghost use Rattle.paper.specs.Grammar.{readOf, constantAt, variableAt, exprAt, condAt};
 ghost use Rattle.rules.specs.Readings.{tagAt, dueOf, amongAt, second};
@@ -15,10 +16,16 @@ pub fn read_tag(s: &[u8], at: usize, left: u8) -> Due
     ensures { λ r. ⌜ r ≡ dueOf (tagAt left (now (s .entry)) at) ⌝ }
 {
     if s.len() <= at {
-        return Due::Refused(Refusal { number: 9, place: s.len() });
+        return Due::Refused(Refusal {
+            number: 9,
+            place: s.len(),
+        });
     }
     if left == 0 {
-        return Due::Refused(Refusal { number: 8, place: at });
+        return Due::Refused(Refusal {
+            number: 8,
+            place: at,
+        });
     }
     Due::Tag(s[at])
 }
@@ -28,7 +35,10 @@ fn read_constant(s: &[u8], at: usize) -> Read
     ensures { λ r. ⌜ r ≡ readOf (constantAt (now (s .entry)) at) ⌝ }
 {
     if s.len() < 4 || s.len() - 4 < at {
-        return Read::Refused(Refusal { number: 9, place: s.len() });
+        return Read::Refused(Refusal {
+            number: 9,
+            place: s.len(),
+        });
     }
     Read::Next(at + 4)
 }
@@ -38,22 +48,30 @@ pub fn read_among(s: &[u8], at: usize, low: u16, high: u8, number: u8) -> Read
     ensures { λ r. ⌜ r ≡ readOf (amongAt low high number (now (s .entry)) at) ⌝ }
 {
     if s.len() <= at {
-        return Read::Refused(Refusal { number: 9, place: s.len() });
+        return Read::Refused(Refusal {
+            number: 9,
+            place: s.len(),
+        });
     }
     let k = s[at];
     if low <= k as u16 && k < high {
         Read::Next(at + 1)
     } else {
-        Read::Refused(Refusal { number: number, place: at })
+        Read::Refused(Refusal {
+            number: number,
+            place: at,
+        })
     }
 }
 
+// A variable's byte, which has to be below v.
 pub fn read_variable(s: &[u8], at: usize, v: u8) -> Read
     ensures { λ r. ⌜ r ≡ readOf (variableAt v (now (s .entry)) at) ⌝ }
 {
     read_among(s, at, 0, v, 6)
 }
 
+// The expression at a place, where so many levels may still stand; what it holds has one less.
 pub fn read_expr(s: &[u8], at: usize, v: u8, left: u8) -> Read
     ensures { λ r. ⌜ r ≡ readOf (exprAt left v (now (s .entry)) at) ⌝ }
 {
@@ -71,7 +89,10 @@ pub fn read_expr(s: &[u8], at: usize, v: u8, left: u8) -> Read
                     Read::Next(n) => read_two(s, n, v, less),
                     Read::Refused(e) => Read::Refused(e),
                 },
-                _ => Read::Refused(Refusal { number: 5, place: at }),
+                _ => Read::Refused(Refusal {
+                    number: 5,
+                    place: at,
+                }),
             }
         }
     }
@@ -87,6 +108,7 @@ fn read_two(s: &[u8], at: usize, v: u8, left: u8) -> Read
     }
 }
 
+// The condition at a place, as `read_expr` goes.
 pub fn read_cond(s: &[u8], at: usize, v: u8, left: u8) -> Read
     ensures { λ r. ⌜ r ≡ readOf (condAt left v (now (s .entry)) at) ⌝ }
 {
@@ -102,7 +124,10 @@ pub fn read_cond(s: &[u8], at: usize, v: u8, left: u8) -> Read
                     Read::Next(n) => read_cond(s, n, v, less),
                     Read::Refused(e) => Read::Refused(e),
                 },
-                _ => Read::Refused(Refusal { number: 5, place: at }),
+                _ => Read::Refused(Refusal {
+                    number: 5,
+                    place: at,
+                }),
             }
         }
     }

@@ -1,0 +1,6 @@
+pub mod Spans
+pub mod Trees
+pub mod Readings
+pub mod Blocks
+pub mod Tags
+pub mod Flow

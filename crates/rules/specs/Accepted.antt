@@ -1,0 +1,64 @@
+-- What can be relied on in a rule that is accepted: its variables exist, its targets exist, and its gotos rise. Assumes nothing: these are definitions.
+use Prim.Native.Nat.{ℕ, _<_, _≤_}
+use mathlib.Core.Path.{_≡_}
+use mathlib.Core.Bool.{Bool, true, false, _||_}
+use mathlib.Core.List.{List, [], _∷_}
+use lib.Dec.{eqb}
+use Rattle.paper.specs.Rule.{Expr, Cond, Stmt, Set, Emit, End, Goto, Jump, Stop, If, Block, Rule, size, blockOf}
+use Rattle.paper.specs.Grammar.{variablesIn, argumentsIn, blocksIn}
+use Rattle.paper.specs.Columns.{reads, looks, endLooks, leadsTo}
+
+-- the blocks that an ending names by a goto
+unfoldable pub gotosTo : End → ℕ → Bool
+gotosTo (Goto u) t = eqb u t
+gotosTo (Jump u) t = false
+gotosTo Stop t = false
+gotosTo (If c x y) t = gotosTo x t || gotosTo y t
+
+-- of all that a set holds, P; or that it lies below a bound
+abbrev pub Each : (ℕ → Type 0) → (ℕ → Bool) → Type 0
+Each P s = (k : ℕ) → s k ≡ true → P k
+
+abbrev pub Below : ℕ → (ℕ → Bool) → Type 0
+Below v s = Each (λ k. k < v) s
+
+-- of v variables
+abbrev pub ExprIn : ℕ → Expr → Type 0
+ExprIn v e = Below v (reads e)
+
+abbrev pub CondIn : ℕ → Cond → Type 0
+CondIn v c = Below v (looks c)
+
+abbrev pub StmtIn : ℕ → Stmt → Type 0
+StmtIn v (Set x a) = (x < v) × ExprIn v a
+StmtIn v (Emit a) = ExprIn v a
+
+abbrev pub BodyIn : ℕ → List Stmt → Type 0
+BodyIn v [] = Unit {0}
+BodyIn v (x ∷ xs) = StmtIn v x × BodyIn v xs
+
+-- of block b, of n blocks
+pub record EndIn (n b v : ℕ) (e : End) : Type 0 where
+  pub variables-exist : Below v (endLooks e)
+  pub targets-exist : Below n (leadsTo e)
+  pub gotos-rise : Each (λ t. b < t) (gotosTo e)
+
+pub record BlockIn (n b v : ℕ) (x : Block) : Type 0 where
+  pub body-in : BodyIn v (x .body)
+  pub ending-in : EndIn n b v (x .ending)
+
+-- what stands for a block past the last
+abbrev pub noBlock : Block
+noBlock = record { body = []; ending = Stop }
+
+-- of the rule whose bytes are s
+pub record RuleIn (s : List ℕ) (r : Rule) : Type 0 where
+  pub variables-are : r .variables ≡ variablesIn s
+  pub arguments-are : r .arguments ≡ argumentsIn s
+  pub blocks-are : size r ≡ blocksIn s
+  pub variables-from : 1 ≤ r .variables
+  pub variables-to : r .variables ≤ 16
+  pub arguments-to : r .arguments ≤ r .variables
+  pub blocks-from : 1 ≤ size r
+  pub blocks-to : size r ≤ 64
+  pub block-in : (b : ℕ) → BlockIn (size r) b (r .variables) (blockOf r b)
