@@ -41,6 +41,9 @@ module _ (s : List ℕ) (r : Rule) (m : ℕ) (e : ruleOf s ≡ got r m) where
   pub place-within : (b : ℕ) → b ≤ size r → placeOf r s b ≤ length s
   place-within b h = spans b h .within
 
+  pub place-past : (b : ℕ) → b ≤ size r → 4 ≤ placeOf r s b
+  place-past b h = spans b h .grows
+
   pub place-last : placeOf r s (size r) ≡ length s
   place-last = let a = accepted s r m e in rw (a .read) (a .whole)
 

@@ -17,7 +17,7 @@ use Rattle.paper.specs.declared.Read.the-variants.{Next, Refused}
 use Rattle.rules.specs.Readings.{tagAt, dueOf, amongAt, second, stmtAt, stmtBody, isStmt, begins}
 use Rattle.rules.specs.Accepted.{StmtIn}
 use Rattle.rules.specs.declared.exprs.Due.the-variants as due
-use Rattle.rules.proofs.Laws.{made, goes, stays, then-one, then-two, by-tag, no-tag, levelled}
+use Rattle.rules.proofs.Laws.{made, goes, stays, then-one, then-two, by-tag, no-tag, Tagged, levelled}
 use Rattle.rules.proofs.Sound.{Sound}
 use Rattle.rules.proofs.Accepted.{set-sound, emit-sound}
 
@@ -41,9 +41,9 @@ module _ (left n b v : ℕ) (s : List ℕ) (at : ℕ) where
   pub end-none : (e : Refusal) → dueOf (tagAt left s at) ≡ due.Refused e → Refused e ≡ readOf (endAt left n b v s at)
   end-none e d = rw end-level (no-tag (tagAt left s at) _ e d)
 
-  module _ (r : Read) (tag : ℕ) (d : dueOf (tagAt left s at) ≡ due.Tag tag) where
+  module _ (r : Read) (tag : ℕ) (d : Tagged left s at tag) where
     end-by : (t : EndTag) → endTag tag ≡ t → r ≡ readOf (endBody t n b v s E at) → r ≡ readOf (endAt left n b v s at)
-    end-by t i e = rw (end-level, by-tag (tagAt left s at) (λ t. endBody (endTag t) n b v s E at) tag d, i) e
+    end-by t i e = rw (end-level, by-tag (tagAt left s at) (λ t. endBody (endTag t) n b v s E at) tag (d .is), i) e
 
     pub end-goto : tag ≡ 0x30 → r ≡ readOf (targetAt (ahead n b) s (at + 1)) → r ≡ readOf (endAt left n b v s at)
     end-goto i e = end-by gotoTag (ap endTag i) (e ∙ sym (made Goto (targetAt (ahead n b) s (at + 1))))
@@ -75,9 +75,9 @@ module _ (v : ℕ) (s : List ℕ) (at : ℕ) where
   pub stmt-none : (e : Refusal) → dueOf (tagAt 1 s at) ≡ due.Refused e → Refused e ≡ readOf (stmtAt v s at)
   stmt-none e d = rw stmt-level (no-tag (tagAt 1 s at) _ e d)
 
-  module _ (r : Read) (tag : ℕ) (d : dueOf (tagAt 1 s at) ≡ due.Tag tag) where
+  module _ (r : Read) (tag : ℕ) (d : Tagged 1 s at tag) where
     stmt-by : (t : StmtTag) → stmtTag tag ≡ t → r ≡ readOf (stmtBody t v s at) → r ≡ readOf (stmtAt v s at)
-    stmt-by t i e = rw (stmt-level, by-tag (tagAt 1 s at) (λ t. stmtBody (stmtTag t) v s at) tag d, i) e
+    stmt-by t i e = rw (stmt-level, by-tag (tagAt 1 s at) (λ t. stmtBody (stmtTag t) v s at) tag (d .is), i) e
 
     pub stmt-set : tag ≡ 0x20 → r ≡ readOf (then (variableAt v s (at + 1)) (λ _ n. exprAt depth v s n)) → r ≡ readOf (stmtAt v s at)
     stmt-set i e = stmt-by setTag (ap stmtTag i) (e ∙ sym (then-one Set (variableAt v s (at + 1)) (exprAt depth v s)))

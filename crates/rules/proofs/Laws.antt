@@ -82,19 +82,23 @@ unfolding dueOf readOf
 no-tag (got t n) f e h = let z : _≡_ {A = ℕ} 0 1 = cc in absurd (omega arith)
 no-tag (refused k p) f e h = let q : record { number = k; place = p } ≡ e = cc in sym (ap Refused q)
 
-module _ (left : ℕ) (s : List ℕ) (at : ℕ) where
-  -- the place is within the bytes and a level is left
-  pub due-there : (t : ℕ) → dueOf (tagAt left s at) ≡ due.Tag t → (at < length s) × (0 < left)
-  unfolding dueOf
-  due-there t e = go (ltb at (length s)) (eqb left 0) refl refl e
-    where
-      go :
-          (a b : Bool) → ltb at (length s) ≡ a → eqb left 0 ≡ b →
-          dueOf (then (cond a (got (getD s at 0) (at + 1)) (refused 9 (length s))) (λ t n. cond b (refused 8 at) (got t n))) ≡ due.Tag t →
-          (at < length s) × (0 < left)
-      go true false p q e = let h = ltb-true at (length s) p in let z = eqb-false left 0 q in (omega arith, omega arith)
-      go true true p q e = let z : _≡_ {A = ℕ} 0 1 = cc in absurd (omega arith)
-      go false b p q e = let z : _≡_ {A = ℕ} 0 1 = cc in absurd (omega arith)
+-- what is known where a tag has been read
+pub record Tagged (left : ℕ) (s : List ℕ) (at tag : ℕ) : Type 0 where
+  pub is : dueOf (tagAt left s at) ≡ due.Tag tag
+  pub there : at < length s
+  pub level : 0 < left
+
+pub tagged : (left : ℕ) (s : List ℕ) (at tag : ℕ) → dueOf (tagAt left s at) ≡ due.Tag tag → Tagged left s at tag
+unfolding dueOf
+tagged left s at tag e = let h = go (ltb at (length s)) (eqb left 0) refl refl e in record { is = e; there = h .0; level = h .1 }
+  where
+    go :
+        (a b : Bool) → ltb at (length s) ≡ a → eqb left 0 ≡ b →
+        dueOf (then (cond a (got (getD s at 0) (at + 1)) (refused 9 (length s))) (λ t n. cond b (refused 8 at) (got t n))) ≡ due.Tag tag →
+        (at < length s) × (0 < left)
+    go true false p q e = let h = ltb-true at (length s) p in let z = eqb-false left 0 q in (omega arith, omega arith)
+    go true true p q e = let z : _≡_ {A = ℕ} 0 1 = cc in absurd (omega arith)
+    go false b p q e = let z : _≡_ {A = ℕ} 0 1 = cc in absurd (omega arith)
 
 -- what reads by levels, X, reads the tag that is due and goes on by it with one level less
 pub levelled :
@@ -114,23 +118,38 @@ levelled {A = A} (suc d) s at X f z h = rw (eqb·suc-zero d, sub-one) (h d ∙ g
 
 -- ---- expressions and conditions
 -- the tags of a kind, and those that are none
-op-tag : (t : ℕ) → t ≤ 4 → (o : Operator) × (exprTag (4 + t) ≡ opTag o)
-op-tag zero h = (Add, refl)
-op-tag (suc zero) h = (Subtract, refl)
-op-tag (suc (suc zero)) h = (Multiply, refl)
-op-tag (suc (suc (suc zero))) h = (Divide, refl)
-op-tag (suc (suc (suc (suc zero)))) h = (Remainder, refl)
-op-tag (suc (suc (suc (suc (suc k))))) h = absurd (omega arith)
+-- the numbers from low on, one after the other
+named :
+    {K T : Type 0} (kind : ℕ → T) (make : K → T) (low high : ℕ) → ((k : ℕ) → low + k < high → (x : K) × (kind (low + k) ≡ make x)) →
+    (t : ℕ) → low ≤ t → t < high → (x : K) × (kind t ≡ make x)
+named kind make low high f t l h = let q : low + (t - low) ≡ t = omega arith in rw q at (f (t - low) (omega arith))
 
-compare-tag : (t : ℕ) → t ≤ 1 → (r : Relation) × (condTag (0x10 + t) ≡ compareTag r)
-compare-tag zero h = (Less, refl)
-compare-tag (suc zero) h = (Equal, refl)
-compare-tag (suc (suc k)) h = absurd (omega arith)
+op-tag : (t : ℕ) → 4 ≤ t → t < 9 → (o : Operator) × (exprTag t ≡ opTag o)
+op-tag = named exprTag opTag 4 9 go
+  where
+    go : (k : ℕ) → 4 + k < 9 → (o : Operator) × (exprTag (4 + k) ≡ opTag o)
+    go zero h = (Add, refl)
+    go (suc zero) h = (Subtract, refl)
+    go (suc (suc zero)) h = (Multiply, refl)
+    go (suc (suc (suc zero))) h = (Divide, refl)
+    go (suc (suc (suc (suc zero)))) h = (Remainder, refl)
+    go (suc (suc (suc (suc (suc k))))) h = absurd (omega arith)
 
-join-tag : (t : ℕ) → t ≤ 1 → (j : Joint) × (condTag (0x13 + t) ≡ joinTag j)
-join-tag zero h = (And, refl)
-join-tag (suc zero) h = (Or, refl)
-join-tag (suc (suc k)) h = absurd (omega arith)
+compare-tag : (t : ℕ) → 0x10 ≤ t → t < 0x12 → (r : Relation) × (condTag t ≡ compareTag r)
+compare-tag = named condTag compareTag 0x10 0x12 go
+  where
+    go : (k : ℕ) → 0x10 + k < 0x12 → (r : Relation) × (condTag (0x10 + k) ≡ compareTag r)
+    go zero h = (Less, refl)
+    go (suc zero) h = (Equal, refl)
+    go (suc (suc k)) h = absurd (omega arith)
+
+join-tag : (t : ℕ) → 0x13 ≤ t → t < 0x15 → (j : Joint) × (condTag t ≡ joinTag j)
+join-tag = named condTag joinTag 0x13 0x15 go
+  where
+    go : (k : ℕ) → 0x13 + k < 0x15 → (j : Joint) × (condTag (0x13 + k) ≡ joinTag j)
+    go zero h = (And, refl)
+    go (suc zero) h = (Or, refl)
+    go (suc (suc k)) h = absurd (omega arith)
 
 -- a number outside a range is none of it
 apart : (low high t : ℕ) → (t < low) ⊎ (high < t) → (k : ℕ) → low ≤ k → k ≤ high → eqb t k ≡ false
@@ -165,12 +184,12 @@ module _ (left v : ℕ) (s : List ℕ) (at : ℕ) where
   pub cond-none : (e : Refusal) → dueOf (tagAt left s at) ≡ due.Refused e → Refused e ≡ readOf (condAt left v s at)
   cond-none e d = rw cond-level (no-tag (tagAt left s at) _ e d)
 
-  module _ (r : Read) (tag : ℕ) (d : dueOf (tagAt left s at) ≡ due.Tag tag) where
+  module _ (r : Read) (tag : ℕ) (d : Tagged left s at tag) where
     expr-by : (t : ExprTag) → exprTag tag ≡ t → r ≡ readOf (exprBody t v s E C at) → r ≡ readOf (exprAt left v s at)
-    expr-by t i e = rw (expr-level, by-tag (tagAt left s at) (λ t. exprBody (exprTag t) v s E C at) tag d, i) e
+    expr-by t i e = rw (expr-level, by-tag (tagAt left s at) (λ t. exprBody (exprTag t) v s E C at) tag (d .is), i) e
 
     cond-by : (t : CondTag) → condTag tag ≡ t → r ≡ readOf (condBody t E C at) → r ≡ readOf (condAt left v s at)
-    cond-by t i e = rw (cond-level, by-tag (tagAt left s at) (λ t. condBody (condTag t) E C at) tag d, i) e
+    cond-by t i e = rw (cond-level, by-tag (tagAt left s at) (λ t. condBody (condTag t) E C at) tag (d .is), i) e
 
     pub expr-const : tag ≡ 0x01 → r ≡ readOf (constantAt s (at + 1)) → r ≡ readOf (exprAt left v s at)
     expr-const i e = expr-by constTag (ap exprTag i) (e ∙ sym (made Const (constantAt s (at + 1))))
@@ -182,10 +201,7 @@ module _ (left v : ℕ) (s : List ℕ) (at : ℕ) where
     expr-neg i e = expr-by negTag (ap exprTag i) (e ∙ sym (made Neg (E (at + 1))))
 
     pub expr-op : 3 < tag → tag < 9 → r ≡ readOf (second E (at + 1)) → r ≡ readOf (exprAt left v s at)
-    expr-op l h e =
-        let o = op-tag (tag - 4) (omega arith) in
-        let q : tag ≡ 4 + (tag - 4) = omega arith in
-        expr-by (opTag (o .0)) (ap exprTag q ∙ o .1) (e ∙ sym (two-made (Op (o .0)) E (at + 1)))
+    expr-op l h e = let o = op-tag tag l h in expr-by (opTag (o .0)) (o .1) (e ∙ sym (two-made (Op (o .0)) E (at + 1)))
 
     pub expr-case : tag ≡ 0x09 → r ≡ readOf (then (C (at + 1)) (λ _ n. second E n)) → r ≡ readOf (exprAt left v s at)
     expr-case i e = expr-by caseTag (ap exprTag i) (e ∙ sym (then-two Case (C (at + 1)) E))
@@ -195,19 +211,13 @@ module _ (left v : ℕ) (s : List ℕ) (at : ℕ) where
     expr-bad h e = expr-by badExpr (bad-expr tag h) e
 
     pub cond-compare : 0x10 ≤ tag → tag < 0x12 → r ≡ readOf (second E (at + 1)) → r ≡ readOf (condAt left v s at)
-    cond-compare l h e =
-        let o = compare-tag (tag - 0x10) (omega arith) in
-        let q : tag ≡ 0x10 + (tag - 0x10) = omega arith in
-        cond-by (compareTag (o .0)) (ap condTag q ∙ o .1) (e ∙ sym (two-made (Compare (o .0)) E (at + 1)))
+    cond-compare l h e = let o = compare-tag tag l h in cond-by (compareTag (o .0)) (o .1) (e ∙ sym (two-made (Compare (o .0)) E (at + 1)))
 
     pub cond-not : tag ≡ 0x12 → r ≡ readOf (C (at + 1)) → r ≡ readOf (condAt left v s at)
     cond-not i e = cond-by notTag (ap condTag i) (e ∙ sym (made Not (C (at + 1))))
 
     pub cond-join : 0x12 < tag → tag < 0x15 → r ≡ readOf (second C (at + 1)) → r ≡ readOf (condAt left v s at)
-    cond-join l h e =
-        let o = join-tag (tag - 0x13) (omega arith) in
-        let q : tag ≡ 0x13 + (tag - 0x13) = omega arith in
-        cond-by (joinTag (o .0)) (ap condTag q ∙ o .1) (e ∙ sym (two-made (Join (o .0)) C (at + 1)))
+    cond-join l h e = let o = join-tag tag l h in cond-by (joinTag (o .0)) (o .1) (e ∙ sym (two-made (Join (o .0)) C (at + 1)))
 
     pub cond-bad : (tag < 0x10) ⊎ (0x14 < tag) → r ≡ Refused (record { number = 5; place = at }) → r ≡ readOf (condAt left v s at)
     unfolding readOf

@@ -1,6 +1,11 @@
 // The readers of a rule's bytes: whether a rule stands there, or what is wrong with it first.
 pub mod blocks;
 pub mod exprs;
+mod files;
+
+pub use files::open;
+pub use files::read;
+pub use files::write;
 
 use paper::Read;
 use paper::Refusal;

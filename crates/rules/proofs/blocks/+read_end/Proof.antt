@@ -1,15 +1,12 @@
 -- The proof of `rules::blocks::read_end`, which calls itself. The measure is the levels left.
 -- Each return is a law of `BlockLaws.antt` at what the tag and the callees say. Assumes nothing.
 use Prim.Native.Nat.{ℕ, _<_}
-use mathlib.Core.Path.{_≡_, refl}
+use mathlib.Core.Path.{refl}
 use native.Mathlib.Omega.{arith}
-use lib.ListN.{length}
 use borrow.Author.Needs.{needs}
 use borrow.Fn.Kinds.{In}
 use borrow.Fn.PlainCycle.{Measures, is, falls, and}
-use Rattle.rules.specs.Readings.{tagAt, dueOf}
-use Rattle.rules.specs.declared.exprs.Due.the-variants.{Tag}
-use Rattle.rules.proofs.Laws.{told, goes, stays, due-there}
+use Rattle.rules.proofs.Laws.{told, goes, stays, Tagged, tagged}
 use Rattle.rules.proofs.BlockLaws.{end-none, end-goto, end-jump, end-stop, end-if, end-bad}
 use Rattle.rules.proofs.blocks.read_end.Reads as read-end
 use Rattle.rules.proofs.blocks.read_end.Kinds as read-end-kinds
@@ -36,17 +33,11 @@ module _ (t : ℕ) where
   end-calls = (read-tag-reads.Asked, read-tag-reads.Learnt, read-ahead-reads.Asked, read-ahead-reads.Learnt, read-among-reads.Asked, read-among-reads.Learnt, read-cond-reads.Asked, read-cond-reads.Learnt, end-below, read-end.Post)
 
   -- where the tag has been read
-  end-due :
+  end-tag :
       (c : end-lts.After-tag end-calls end-at read-end.Post) →
       let start = c .before .before .before .before in
-      dueOf (tagAt (start .args .left) (start .args .s .now) (start .args .at)) ≡ Tag (c .tag .given .0 .0)
-  end-due c = told (c .before .before .read-tag .ensures) (c .tag .given .1)
-
-  end-there :
-      (c : end-lts.After-tag end-calls end-at read-end.Post) →
-      let start = c .before .before .before .before in
-      (start .args .at < length (start .args .s .now)) × (0 < start .args .left)
-  end-there c = due-there _ (c .before .before .before .before .args .s .now) _ _ (end-due c)
+      Tagged (start .args .left) (start .args .s .now) (start .args .at) (c .tag .given .0 .0)
+  end-tag c = tagged _ _ _ _ (told (c .before .before .read-tag .ensures) (c .tag .given .1))
 
   end-1 : end-lts.Need-returns end-calls end-at read-end.Post
   end-1 c =
@@ -54,19 +45,19 @@ module _ (t : ℕ) where
       end-none _ _ _ _ _ _ _ (told (e .before .before .read-tag .ensures) (e .e .given .1))
 
   end-2 : end-lts.Need-returns-2 end-calls end-at read-end.Post
-  end-2 c = end-goto _ _ _ _ _ _ _ _ (end-due (c .before .before .before)) (c .before .match2 .keys1) (c .read-ahead .ensures)
+  end-2 c = end-goto _ _ _ _ _ _ _ _ (end-tag (c .before .before .before)) (c .before .match2 .keys1) (c .read-ahead .ensures)
 
   end-3 : end-lts.Need-returns-3 end-calls end-at read-end.Post
-  end-3 c = end-jump _ _ _ _ _ _ _ _ (end-due (c .before .before .before)) (c .before .match2 .keys2) (c .read-among .ensures)
+  end-3 c = end-jump _ _ _ _ _ _ _ _ (end-tag (c .before .before .before)) (c .before .match2 .keys2) (c .read-among .ensures)
 
   end-4 : end-lts.Need-returns-4 end-calls end-at read-end.Post
-  end-4 c = end-stop _ _ _ _ _ _ _ _ (end-due (c .before .before)) (c .match2 .keys3) refl
+  end-4 c = end-stop _ _ _ _ _ _ _ _ (end-tag (c .before .before)) (c .match2 .keys3) refl
 
   end-5 : end-lts.Need-returns-5 end-calls end-at read-end.Post
   end-5 c =
       let e = c .before in
       let test = e .before .before in
-      end-if _ _ _ _ _ _ _ _ (end-due (test .before .before .before)) (test .before .match2 .keys4)
+      end-if _ _ _ _ _ _ _ _ (end-tag (test .before .before .before)) (test .before .match2 .keys4)
       (stays _ _ _ (told (test .read-cond .ensures) (e .e2 .given .1)))
 
   end-6 : end-lts.Need-returns-6 end-calls end-at read-end.Post
@@ -75,7 +66,7 @@ module _ (t : ℕ) where
       let first = e .before .before in
       let n = first .before .before in
       let test = n .before .before in
-      end-if _ _ _ _ _ _ _ _ (end-due (test .before .before .before)) (test .before .match2 .keys4)
+      end-if _ _ _ _ _ _ _ _ (end-tag (test .before .before .before)) (test .before .match2 .keys4)
       (goes _ _ _ _ (told (test .read-cond .ensures) (n .n .given .1)) (λ _. stays _ _ _ (told (first .read-end .ensures) (e .e3 .given .1))))
 
   end-7 : end-lts.Need-returns-7 end-calls end-at read-end.Post
@@ -84,19 +75,19 @@ module _ (t : ℕ) where
       let first = m .before .before in
       let n = first .before .before in
       let test = n .before .before in
-      end-if _ _ _ _ _ _ _ _ (end-due (test .before .before .before)) (test .before .match2 .keys4)
+      end-if _ _ _ _ _ _ _ _ (end-tag (test .before .before .before)) (test .before .match2 .keys4)
       (goes _ _ _ _ (told (test .read-cond .ensures) (n .n .given .1)) (λ _. goes _ _ _ _ (told (first .read-end .ensures) (m .m .given .1)) (λ _. c .read-end2 .ensures)))
 
   end-8 : end-lts.Need-returns-8 end-calls end-at read-end.Post
   end-8 c =
       let none = c .match2 .rest in
-      end-bad _ _ _ _ _ _ _ _ (end-due (c .before .before)) (none .0 .0 .0 .1) (none .0 .0 .1) (none .0 .1) (none .1) refl
+      end-bad _ _ _ _ _ _ _ _ (end-tag (c .before .before)) (none .0 .0 .0 .1) (none .0 .0 .1) (none .0 .1) (none .1) refl
 
 pub +read-end-spec : {M : Type 1} → statement M
 +read-end-spec =
     close μ-end (λ t. end-lts.spec (end-calls t) (end-at t) read-end.Post
-    (λ c κs. search needs) (λ c. search needs) (λ c. search needs) (λ c. omega (arith, end-there t (c .before))) (λ c. omega (arith, end-there t (c .before)))
+    (λ c κs. search needs) (λ c. search needs) (λ c. search needs) (λ c. omega (arith, end-tag t (c .before))) (λ c. omega (arith, end-tag t (c .before)))
     (λ c κs. search needs) (λ c κs. search needs) (λ c κs. search needs) (λ c. search needs) (λ c. search needs)
-    (λ c κs. omega (arith, end-there t (c .before .before .before .before .before .before))) (λ c. search needs) (λ c. search needs)
-    (λ c κs. omega (arith, end-there t (c .before .before .before .before .before .before .before .before .before .before)))
+    (λ c κs. omega (arith, end-tag t (c .before .before .before .before .before .before))) (λ c. search needs) (λ c. search needs)
+    (λ c κs. omega (arith, end-tag t (c .before .before .before .before .before .before .before .before .before .before)))
     (end-1 t) (end-2 t) (end-3 t) (end-4 t) (end-5 t) (end-6 t) (end-7 t) (end-8 t))

@@ -2,7 +2,7 @@
 use mathlib.Core.Path.{refl}
 use native.Mathlib.Omega.{arith}
 use borrow.Author.Needs.{needs}
-use Rattle.rules.proofs.Laws.{told, goes, stays, due-there}
+use Rattle.rules.proofs.Laws.{told, goes, stays, tagged}
 use Rattle.rules.proofs.BlockLaws.{stmt-none, stmt-set, stmt-emit, stmt-bad}
 use Rattle.rules.proofs.blocks.read_stmt.Statement.{statement}
 use Rattle.rules.proofs.blocks.read_stmt.Tie as tie
@@ -10,7 +10,7 @@ use Rattle.rules.proofs.blocks.read_stmt.Tie as tie
 add-next : tie.Need-add-next
 add-next c =
     let first = c .before .before .before in
-    omega (arith, due-there 1 (first .before .before .args .s .now) _ _ (told (first .read-tag .ensures) (c .before .tag .given .1)))
+    omega (arith, tagged 1 (first .before .before .args .s .now) _ _ (told (first .read-tag .ensures) (c .before .tag .given .1)))
 
 returns : tie.Need-returns
 returns c =
@@ -22,7 +22,7 @@ returns-2 c =
     let n = c .before .before in
     let first = n .before .before in
     let tag = first .before .before .before in
-    stmt-set _ _ _ _ _ (told (tag .before .before .read-tag .ensures) (tag .tag .given .1)) (first .before .match2 .keys1)
+    stmt-set _ _ _ _ _ (tagged _ _ _ _ (told (tag .before .before .read-tag .ensures) (tag .tag .given .1))) (first .before .match2 .keys1)
     (goes _ _ _ _ (told (first .read-variable .ensures) (n .n .given .1)) (λ _. c .read-expr .ensures))
 
 returns-3 : tie.Need-returns-3
@@ -30,18 +30,18 @@ returns-3 c =
     let e = c .before in
     let first = e .before .before in
     let tag = first .before .before .before in
-    stmt-set _ _ _ _ _ (told (tag .before .before .read-tag .ensures) (tag .tag .given .1)) (first .before .match2 .keys1)
+    stmt-set _ _ _ _ _ (tagged _ _ _ _ (told (tag .before .before .read-tag .ensures) (tag .tag .given .1))) (first .before .match2 .keys1)
     (stays _ _ _ (told (first .read-variable .ensures) (e .e2 .given .1)))
 
 returns-4 : tie.Need-returns-4
 returns-4 c =
     let tag = c .before .before .before in
-    stmt-emit _ _ _ _ _ (told (tag .before .before .read-tag .ensures) (tag .tag .given .1)) (c .before .match2 .keys2) (c .read-expr2 .ensures)
+    stmt-emit _ _ _ _ _ (tagged _ _ _ _ (told (tag .before .before .read-tag .ensures) (tag .tag .given .1))) (c .before .match2 .keys2) (c .read-expr2 .ensures)
 
 returns-5 : tie.Need-returns-5
 returns-5 c =
     let tag = c .before .before in
-    stmt-bad _ _ _ _ _ (told (tag .before .before .read-tag .ensures) (tag .tag .given .1)) (c .match2 .rest .0 .1) (c .match2 .rest .1) refl
+    stmt-bad _ _ _ _ _ (tagged _ _ _ _ (told (tag .before .before .read-tag .ensures) (tag .tag .given .1))) (c .match2 .rest .0 .1) (c .match2 .rest .1) refl
 
 pub read-stmt-spec : {M : Type 1} → statement M
 read-stmt-spec =

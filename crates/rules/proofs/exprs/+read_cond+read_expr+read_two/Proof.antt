@@ -1,16 +1,13 @@
 -- The proof of the cycle of calls {read_cond, read_expr, read_two}. The measure is twice the levels left, and one more for `read_two`, which calls `read_expr` at the levels that it has.
 -- Each return is a law of `Laws.antt` at what the tests and the callees say. Assumes nothing.
 use Prim.Native.Nat.{ℕ, _+_, _*_, _<_}
-use mathlib.Core.Path.{_≡_, refl}
+use mathlib.Core.Path.{refl}
 use mathlib.Core.Logic.{inl, inr}
 use native.Mathlib.Omega.{arith}
-use lib.ListN.{length}
 use borrow.Author.Needs.{needs}
 use borrow.Fn.Kinds.{In}
 use borrow.Fn.PlainCycle.{Measures, is, falls, and}
-use Rattle.rules.specs.Readings.{tagAt, dueOf}
-use Rattle.rules.specs.declared.exprs.Due.the-variants.{Tag}
-use Rattle.rules.proofs.Laws.{told, past, goes, stays, due-there, expr-none, expr-const, expr-var, expr-neg, expr-op, expr-case, expr-bad, cond-none, cond-compare, cond-not, cond-join, cond-bad}
+use Rattle.rules.proofs.Laws.{told, past, goes, stays, Tagged, tagged, expr-none, expr-const, expr-var, expr-neg, expr-op, expr-case, expr-bad, cond-none, cond-compare, cond-not, cond-join, cond-bad}
 use Rattle.rules.proofs.exprs.read_cond.Reads as read-cond
 use Rattle.rules.proofs.exprs.read_cond.Kinds as read-cond-kinds
 use Rattle.rules.proofs.exprs.+read_cond+read_expr+read_two.Lts-read_cond as cond-lts
@@ -77,17 +74,11 @@ module _ (t : ℕ) where
 
   -- ---- read_cond
   -- where the tag has been read
-  cond-due :
+  cond-tag :
       (c : cond-lts.After-tag cond-calls cond-at read-cond.Post) →
       let start = c .before .before .before .before in
-      dueOf (tagAt (start .args .left) (start .args .s .now) (start .args .at)) ≡ Tag (c .tag .given .0 .0)
-  cond-due c = told (c .before .before .read-tag .ensures) (c .tag .given .1)
-
-  cond-there :
-      (c : cond-lts.After-tag cond-calls cond-at read-cond.Post) →
-      let start = c .before .before .before .before in
-      (start .args .at < length (start .args .s .now)) × (0 < start .args .left)
-  cond-there c = due-there _ (c .before .before .before .before .args .s .now) _ _ (cond-due c)
+      Tagged (start .args .left) (start .args .s .now) (start .args .at) (c .tag .given .0 .0)
+  cond-tag c = tagged _ _ _ _ (told (c .before .before .read-tag .ensures) (c .tag .given .1))
 
   cond-1 : cond-lts.Need-returns cond-calls cond-at read-cond.Post
   cond-1 c =
@@ -95,12 +86,12 @@ module _ (t : ℕ) where
       cond-none _ _ _ _ _ (told (e .before .before .read-tag .ensures) (e .e .given .1))
 
   cond-2 : cond-lts.Need-returns-2 cond-calls cond-at read-cond.Post
-  cond-2 c = cond-not _ _ _ _ _ _ (cond-due (c .before .before .before)) (c .before .match2 .keys1) (c .read-cond .ensures)
+  cond-2 c = cond-not _ _ _ _ _ _ (cond-tag (c .before .before .before)) (c .before .match2 .keys1) (c .read-cond .ensures)
 
   cond-3 : cond-lts.Need-returns-3 cond-calls cond-at read-cond.Post
   cond-3 c =
       let rest = c .before .before .before in
-      cond-compare _ _ _ _ _ _ (cond-due (rest .before .before)) (c .before .before .if1 .left) (c .before .if2 .taken) (c .read-two .ensures)
+      cond-compare _ _ _ _ _ _ (cond-tag (rest .before .before)) (c .before .before .if1 .left) (c .before .if2 .taken) (c .read-two .ensures)
 
   cond-4 : cond-lts.Need-returns-4 cond-calls cond-at read-cond.Post
   cond-4 c =
@@ -108,7 +99,7 @@ module _ (t : ℕ) where
       let first = n .before .before in
       let other = first .before .before in
       let rest = other .before .before in
-      cond-join _ _ _ _ _ _ (cond-due (rest .before .before)) (past _ _ (other .if2 .left) (rest .match2 .rest .1)) (first .before .if3 .taken)
+      cond-join _ _ _ _ _ _ (cond-tag (rest .before .before)) (past _ _ (other .if2 .left) (rest .match2 .rest .1)) (first .before .if3 .taken)
       (goes _ _ _ _ (told (first .read-cond2 .ensures) (n .n .given .1)) (λ _. c .read-cond3 .ensures))
 
   cond-5 : cond-lts.Need-returns-5 cond-calls cond-at read-cond.Post
@@ -117,30 +108,24 @@ module _ (t : ℕ) where
       let first = e .before .before in
       let other = first .before .before in
       let rest = other .before .before in
-      cond-join _ _ _ _ _ _ (cond-due (rest .before .before)) (past _ _ (other .if2 .left) (rest .match2 .rest .1)) (first .before .if3 .taken)
+      cond-join _ _ _ _ _ _ (cond-tag (rest .before .before)) (past _ _ (other .if2 .left) (rest .match2 .rest .1)) (first .before .if3 .taken)
       (stays _ _ _ (told (first .read-cond2 .ensures) (e .e2 .given .1)))
 
   cond-6 : cond-lts.Need-returns-6 cond-calls cond-at read-cond.Post
-  cond-6 c = cond-bad _ _ _ _ _ _ (cond-due (c .before .before .before)) (inl (c .if1 .taken)) refl
+  cond-6 c = cond-bad _ _ _ _ _ _ (cond-tag (c .before .before .before)) (inl (c .if1 .taken)) refl
 
   cond-7 : cond-lts.Need-returns-7 cond-calls cond-at read-cond.Post
   cond-7 c =
       let rest = c .before .before .before in
-      cond-bad _ _ _ _ _ _ (cond-due (rest .before .before)) (inr (c .if3 .left)) refl
+      cond-bad _ _ _ _ _ _ (cond-tag (rest .before .before)) (inr (c .if3 .left)) refl
 
   -- ---- read_expr
   -- where the tag has been read
-  expr-due :
+  expr-tag :
       (c : expr-lts.After-tag expr-calls expr-at read-expr.Post) →
       let start = c .before .before .before .before in
-      dueOf (tagAt (start .args .left) (start .args .s .now) (start .args .at)) ≡ Tag (c .tag .given .0 .0)
-  expr-due c = told (c .before .before .read-tag .ensures) (c .tag .given .1)
-
-  expr-there :
-      (c : expr-lts.After-tag expr-calls expr-at read-expr.Post) →
-      let start = c .before .before .before .before in
-      (start .args .at < length (start .args .s .now)) × (0 < start .args .left)
-  expr-there c = due-there _ (c .before .before .before .before .args .s .now) _ _ (expr-due c)
+      Tagged (start .args .left) (start .args .s .now) (start .args .at) (c .tag .given .0 .0)
+  expr-tag c = tagged _ _ _ _ (told (c .before .before .read-tag .ensures) (c .tag .given .1))
 
   expr-1 : expr-lts.Need-returns expr-calls expr-at read-expr.Post
   expr-1 c =
@@ -148,26 +133,26 @@ module _ (t : ℕ) where
       expr-none _ _ _ _ _ (told (e .before .before .read-tag .ensures) (e .e .given .1))
 
   expr-2 : expr-lts.Need-returns-2 expr-calls expr-at read-expr.Post
-  expr-2 c = expr-const _ _ _ _ _ _ (expr-due (c .before .before .before)) (c .before .match2 .keys1) (c .read-constant .ensures)
+  expr-2 c = expr-const _ _ _ _ _ _ (expr-tag (c .before .before .before)) (c .before .match2 .keys1) (c .read-constant .ensures)
 
   expr-3 : expr-lts.Need-returns-3 expr-calls expr-at read-expr.Post
-  expr-3 c = expr-var _ _ _ _ _ _ (expr-due (c .before .before .before)) (c .before .match2 .keys2) (c .read-variable .ensures)
+  expr-3 c = expr-var _ _ _ _ _ _ (expr-tag (c .before .before .before)) (c .before .match2 .keys2) (c .read-variable .ensures)
 
   expr-4 : expr-lts.Need-returns-4 expr-calls expr-at read-expr.Post
-  expr-4 c = expr-neg _ _ _ _ _ _ (expr-due (c .before .before .before)) (c .before .match2 .keys3) (c .read-expr .ensures)
+  expr-4 c = expr-neg _ _ _ _ _ _ (expr-tag (c .before .before .before)) (c .before .match2 .keys3) (c .read-expr .ensures)
 
   expr-5 : expr-lts.Need-returns-5 expr-calls expr-at read-expr.Post
   expr-5 c =
       let n = c .before .before in
       let first = n .before .before in
-      expr-case _ _ _ _ _ _ (expr-due (first .before .before .before)) (first .before .match2 .keys4)
+      expr-case _ _ _ _ _ _ (expr-tag (first .before .before .before)) (first .before .match2 .keys4)
       (goes _ _ _ _ (told (first .read-cond .ensures) (n .n .given .1)) (λ _. c .read-two .ensures))
 
   expr-6 : expr-lts.Need-returns-6 expr-calls expr-at read-expr.Post
   expr-6 c =
       let e = c .before in
       let first = e .before .before in
-      expr-case _ _ _ _ _ _ (expr-due (first .before .before .before)) (first .before .match2 .keys4)
+      expr-case _ _ _ _ _ _ (expr-tag (first .before .before .before)) (first .before .match2 .keys4)
       (stays _ _ _ (told (first .read-cond .ensures) (e .e2 .given .1)))
 
   expr-7 : expr-lts.Need-returns-7 expr-calls expr-at read-expr.Post
@@ -175,24 +160,24 @@ module _ (t : ℕ) where
       let low = c .before .before in
       let rest = low .before in
       let none = rest .match2 .rest in
-      expr-op _ _ _ _ _ _ (expr-due (rest .before .before)) (past _ _ (past _ _ (past _ _ (low .if1 .left) (none .0 .0 .0 .1)) (none .0 .0 .1)) (none .0 .1)) (c .before .if2 .taken) (c .read-two2 .ensures)
+      expr-op _ _ _ _ _ _ (expr-tag (rest .before .before)) (past _ _ (past _ _ (past _ _ (low .if1 .left) (none .0 .0 .0 .1)) (none .0 .0 .1)) (none .0 .1)) (c .before .if2 .taken) (c .read-two2 .ensures)
 
   expr-8 : expr-lts.Need-returns-8 expr-calls expr-at read-expr.Post
-  expr-8 c = expr-bad _ _ _ _ _ _ (expr-due (c .before .before .before)) (inl (c .if1 .taken)) refl
+  expr-8 c = expr-bad _ _ _ _ _ _ (expr-tag (c .before .before .before)) (inl (c .if1 .taken)) refl
 
   expr-9 : expr-lts.Need-returns-9 expr-calls expr-at read-expr.Post
   expr-9 c =
       let rest = c .before .before in
-      expr-bad _ _ _ _ _ _ (expr-due (rest .before .before)) (inr (past _ _ (c .if2 .left) (rest .match2 .rest .1))) refl
+      expr-bad _ _ _ _ _ _ (expr-tag (rest .before .before)) (inr (past _ _ (c .if2 .left) (rest .match2 .rest .1))) refl
 
 pub +read-cond+read-expr+read-two-spec : {M : Type 1} → statement M
 +read-cond+read-expr+read-two-spec =
     close μ-cond μ-expr μ-two
     (λ t. cond-lts.spec (cond-calls t) (cond-at t) read-cond.Post
-    (λ c κs. search needs) (λ c. search needs) (λ c. search needs) (λ c. omega (arith, cond-there t (c .before))) (λ c. omega (arith, cond-there t (c .before))) (λ c κs. omega (arith, cond-there t (c .before .before))) (λ c κs. omega (arith, cond-there t (c .before .before .before .before))) (λ c κs. omega (arith, cond-there t (c .before .before .before .before .before))) (λ c. search needs) (λ c κs. omega (arith, cond-there t (c .before .before .before .before .before .before .before .before .before))) (λ c. search needs)
+    (λ c κs. search needs) (λ c. search needs) (λ c. search needs) (λ c. omega (arith, cond-tag t (c .before))) (λ c. omega (arith, cond-tag t (c .before))) (λ c κs. omega (arith, cond-tag t (c .before .before))) (λ c κs. omega (arith, cond-tag t (c .before .before .before .before))) (λ c κs. omega (arith, cond-tag t (c .before .before .before .before .before))) (λ c. search needs) (λ c κs. omega (arith, cond-tag t (c .before .before .before .before .before .before .before .before .before))) (λ c. search needs)
     (cond-1 t) (cond-2 t) (cond-3 t) (cond-4 t) (cond-5 t) (cond-6 t) (cond-7 t))
     (λ t. expr-lts.spec (expr-calls t) (expr-at t) read-expr.Post
-    (λ c κs. search needs) (λ c. search needs) (λ c. search needs) (λ c. omega (arith, expr-there t (c .before))) (λ c. omega (arith, expr-there t (c .before))) (λ c κs. search needs) (λ c κs. search needs) (λ c κs. omega (arith, expr-there t (c .before .before))) (λ c κs. omega (arith, expr-there t (c .before .before))) (λ c. search needs) (λ c κs. omega (arith, expr-there t (c .before .before .before .before .before .before))) (λ c. search needs) (λ c κs. omega (arith, expr-there t (c .before .before .before .before)))
+    (λ c κs. search needs) (λ c. search needs) (λ c. search needs) (λ c. omega (arith, expr-tag t (c .before))) (λ c. omega (arith, expr-tag t (c .before))) (λ c κs. search needs) (λ c κs. search needs) (λ c κs. omega (arith, expr-tag t (c .before .before))) (λ c κs. omega (arith, expr-tag t (c .before .before))) (λ c. search needs) (λ c κs. omega (arith, expr-tag t (c .before .before .before .before .before .before))) (λ c. search needs) (λ c κs. omega (arith, expr-tag t (c .before .before .before .before)))
     (expr-1 t) (expr-2 t) (expr-3 t) (expr-4 t) (expr-5 t) (expr-6 t) (expr-7 t) (expr-8 t) (expr-9 t))
     (λ t. two-lts.spec (two-calls t) (two-at t) read-two.Post
     (λ c κs. omega arith) (λ c. search needs) (λ c κs. omega arith) (λ c. search needs) (two-next t) (two-refused t))
