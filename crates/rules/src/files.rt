@@ -1,5 +1,7 @@
 // Rule files: a file's rule into the caller's buffer, and a rule's file.
-use paper::{Read, Refusal, Reply};
+use paper::Read;
+use paper::Refusal;
+use paper::Reply;
 ghost use Prim.Native.Nat.{_≤_};
 ghost use lib.ListN.{length};
 ghost use Rattle.paper.specs.Grammar.{longest};

@@ -6,7 +6,6 @@ mod files;
 pub use files::open;
 pub use files::read;
 pub use files::write;
-
 use paper::Read;
 use paper::Refusal;
 ghost use mathlib.Core.Path.{_≡_};

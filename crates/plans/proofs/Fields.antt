@@ -1,0 +1,112 @@
+-- Where each number stands in a plan, and what a plan carries. Assumes nothing.
+use Prim.Native.Nat.{ℕ, zero, suc, _+_, _-_, _*_, _/_, _%_, _≤_, _<_}
+use mathlib.Core.Path.{_≡_, refl, sym, ap, _∙_}
+use mathlib.Core.Bool.{cond}
+use mathlib.Core.List.{List, [], _∷_, _++_, append-assoc, append-nil}
+use mathlib.Core.Logic.{⊎-elim}
+use native.Mathlib.Omega.{arith}
+use native.Mathlib.Nat.{le-of-suc-le-suc, eq-or-lt-of-le}
+use lib.ListN.{length, take, drop, getD, length-append, length-drop, take-append-drop, List·getD-append}
+use lib.Seq.{take-at, drop-at, getD-append-add, getD-take, drop-append-le, length-take-le}
+use Rattle.paper.specs.Rule.{Rule, size}
+use Rattle.paper.specs.Grammar.{blocksIn}
+use Rattle.paper.specs.Columns.{flowOf, inputsOf, outputsOf, LC}
+use Rattle.paper.specs.Plan.{le16, maskOf, placeOf, headSize, entryOf, entriesTo, planOf, planSize, carried}
+use Rattle.paper.specs.Pages.{wordAt}
+
+-- a number's two bytes are the number
+pub word-le16 : (n : ℕ) (xs : List ℕ) → wordAt (le16 n ++ xs) 0 ≡ n
+word-le16 n xs = omega arith
+
+-- the word past a part is the word of what follows
+pub word-past : (xs ys : List ℕ) (n i : ℕ) → length xs ≡ n → wordAt (xs ++ ys) (n + i) ≡ wordAt ys i
+word-past xs ys n i e =
+    let a : n + i + 1 ≡ length xs + (i + 1) = omega arith in
+    let b : n + i ≡ length xs + i = omega arith in
+    rw (a, b, getD-append-add xs ys i 0, getD-append-add xs ys (i + 1) 0)
+
+-- ---- a plan's parts: the header, LC, the entries, the body
+module _ (head entries body : List ℕ) (lc : ℕ) (four : length head ≡ 4) where
+  abbrev parts : List ℕ
+  parts = head ++ (le16 lc ++ (entries ++ body))
+
+  parts-lc : wordAt parts 4 ≡ lc
+  parts-lc = word-past head (le16 lc ++ (entries ++ body)) 4 0 four ∙ word-le16 lc (entries ++ body)
+
+  -- past the header and LC
+  past-six : (i : ℕ) → wordAt parts (6 + i) ≡ wordAt (entries ++ body) i
+  past-six i =
+      let e : 6 + i ≡ 4 + (2 + i) = omega arith in
+      rw e (word-past head (le16 lc ++ (entries ++ body)) 4 (2 + i) four ∙ word-past (le16 lc) (entries ++ body) 2 i refl)
+
+  parts-body : (n : ℕ) → length entries ≡ n → drop (6 + n) parts ≡ body
+  parts-body n e =
+      rw (← append-assoc (le16 lc) entries body, ← append-assoc head (le16 lc ++ entries) body)
+      (drop-at (head ++ (le16 lc ++ entries)) body (6 + n) (simp (length-append) (omega arith)))
+
+-- the word i of the part x that stands at k in xs
+word-in : (xs x rest body : List ℕ) (k i : ℕ) → drop k xs ≡ x ++ rest → k ≤ length xs → i + 1 < length x → wordAt (xs ++ body) (k + i) ≡ wordAt x i
+word-in xs x rest body k i e h l =
+    let f : xs ++ body ≡ take k xs ++ (x ++ (rest ++ body)) =
+    ap (λ (ys : List ℕ). ys ++ body) (sym (take-append-drop k xs) ∙ ap (λ (ys : List ℕ). take k xs ++ ys) e)
+    ∙ append-assoc (take k xs) (x ++ rest) body ∙ ap (λ (ys : List ℕ). take k xs ++ ys) (append-assoc x rest body) in
+    rw f (word-past (take k xs) (x ++ (rest ++ body)) k i (length-take-le k xs h) ∙ rw (List·getD-append x (rest ++ body) 0 i (omega arith), List·getD-append x (rest ++ body) 0 (i + 1) l))
+
+module _ (r : Rule) (s : List ℕ) where
+  entry-length : (b : ℕ) → length (entryOf r s b) ≡ 8
+  unfolding entryOf
+  entry-length b = refl
+
+  pub entries-length : (k : ℕ) → length (entriesTo r s k) ≡ 8 * k
+  unfolding entriesTo
+  entries-length zero = refl
+  entries-length (suc k) = simp (length-append, entries-length k, entry-length) (omega arith)
+
+  -- the entries, from entry b on
+  from-entry : (b k : ℕ) → b < k → (xs : List ℕ) × (drop (8 * b) (entriesTo r s k) ≡ entryOf r s b ++ xs)
+  unfolding entriesTo
+  from-entry b zero h = absurd (omega arith)
+  from-entry b (suc k) h = ⊎-elim last (λ l. earlier l (from-entry b k l)) (eq-or-lt-of-le (le-of-suc-le-suc h))
+    where
+      last : b ≡ k → (xs : List ℕ) × (drop (8 * b) (entriesTo r s (suc k)) ≡ entryOf r s b ++ xs)
+      last e = ([], rw e (drop-at (entriesTo r s k) (entryOf r s k) (8 * k) (entries-length k) ∙ sym (append-nil (entryOf r s k))))
+
+      earlier : b < k → (xs : List ℕ) × (drop (8 * b) (entriesTo r s k) ≡ entryOf r s b ++ xs)
+          → (xs : List ℕ) × (drop (8 * b) (entriesTo r s (suc k)) ≡ entryOf r s b ++ xs)
+      earlier l ih = (
+        ih .0 ++ entryOf r s k,
+        drop-append-le (8 * b) (entriesTo r s k) (entryOf r s k) (omega (arith, entries-length k)) ∙ rw (ih .1) (append-assoc (entryOf r s b) (ih .0) (entryOf r s k)),
+      )
+
+  pub plan-length : 4 ≤ length s → length (planOf r s) ≡ planSize (size r) (length s)
+  unfolding planOf
+  plan-length h = simp (length-append, length-take-le 4 s h, length-drop, entries-length) (omega arith)
+
+  -- the word i of entry b
+  pub plan-entry : 4 ≤ length s → (b i : ℕ) → b < size r → i + 1 < 8 → wordAt (planOf r s) (6 + (8 * b + i)) ≡ wordAt (entryOf r s b) i
+  unfolding planOf
+  plan-entry h b i l j =
+      let f = from-entry b (size r) l in
+      past-six (take 4 s) (entriesTo r s (size r)) (drop 4 s) (maskOf (r .variables) (LC (flowOf r))) (length-take-le 4 s h) (8 * b + i)
+      ∙ word-in (entriesTo r s (size r)) (entryOf r s b) (f .0) (drop 4 s) (8 * b) i (f .1) (omega (arith, entries-length (size r))) (omega (arith, entry-length b))
+
+  pub plan-lc : 4 ≤ length s → wordAt (planOf r s) 4 ≡ maskOf (r .variables) (LC (flowOf r))
+  unfolding planOf
+  plan-lc h = parts-lc (take 4 s) (entriesTo r s (size r)) (drop 4 s) (maskOf (r .variables) (LC (flowOf r))) (length-take-le 4 s h)
+
+  -- a plan's header is the rule's, and what follows its entries is what follows the rule's header
+  plan-head : 4 ≤ length s → take 4 (planOf r s) ≡ take 4 s
+  unfolding planOf
+  plan-head h = take-at (take 4 s) (le16 (maskOf (r .variables) (LC (flowOf r))) ++ (entriesTo r s (size r) ++ drop 4 s)) 4 (length-take-le 4 s h)
+
+  plan-body : 4 ≤ length s → drop (headSize (size r)) (planOf r s) ≡ drop 4 s
+  unfolding planOf
+  plan-body h = parts-body (take 4 s) (entriesTo r s (size r)) (drop 4 s) (maskOf (r .variables) (LC (flowOf r))) (length-take-le 4 s h) (8 * size r) (entries-length (size r))
+
+  -- a byte of the header
+  pub plan-byte : 4 ≤ length s → (i : ℕ) → i < 4 → getD (planOf r s) i 0 ≡ getD s i 0
+  plan-byte h i l = sym (getD-take 4 (planOf r s) i 0 l) ∙ ap (λ (xs : List ℕ). getD xs i 0) (plan-head h) ∙ getD-take 4 s i 0 l
+
+  -- a rule's plan carries the rule
+  pub plan-carries : 4 ≤ length s → blocksIn s ≡ size r → carried (planOf r s) ≡ s
+  plan-carries h e = rw (plan-byte h 3 (omega arith), e, plan-head h, plan-body h) (take-append-drop 4 s)

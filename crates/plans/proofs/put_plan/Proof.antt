@@ -1,0 +1,38 @@
+-- `plans::put_plan` meets its contract: what is worked out of the rule is what is laid down. Assumes nothing.
+use borrow.Author.Needs.{needs}
+use native.Mathlib.Omega.{arith}
+use Rattle.plans.proofs.Ruling.{ruled-long, ruled-blocks, ruled-variables, ruled-room, laid}
+use Rattle.plans.proofs.put_plan.Statement.{statement}
+use Rattle.plans.proofs.put_plan.Tie as tie
+
+byte-requires : tie.Need-byte-requires
+byte-requires c κs = omega (arith, ruled-long _ (c .before .before .pre .0))
+
+byte-requires-2 : tie.Need-byte-requires-2
+byte-requires-2 c κs = omega (arith, ruled-long _ (c .before .before .before .pre .0))
+
+columns-requires : tie.Need-columns-requires
+columns-requires c κs =
+    let s = c .before .before .before .before .before .before .before .before .before .before .before .before .before .before in
+    (omega (arith, c .before .before .before .before .before .before .before .before .before .before .before .byte .ensures .0, ruled-blocks _ (s .pre .0) .1), omega (arith, c .before .before .before .before .before .before .before .before .before .before .byte2 .ensures .0, ruled-variables _ (s .pre .0)))
+
+lay-requires : tie.Need-lay-requires
+lay-requires c κs =
+    let s = c .before .before .before .before .before .before .before .before .before .before .before .before .before .before .before .before .before .before .before .before .before .before in
+    ruled-room _ (s .pre .0) _ _ _ (c .before .before .before .before .before .before .before .before .before .before .before .before .before .before .before .before .before .before .before .byte .ensures .0) (c .before .before .before .before .before .before .before .before .before .before .before .before .before .before .before .before .before .flow-of .ensures) (s .pre .1)
+
+returns : tie.Need-returns
+returns c = λ r m e.
+    c .before .before .lay .ensures r (laid _ r m e (c .before .before .before .before .before .before .before .before .before .before .before .before .before .before .before .before .before .before .before .before .before .before .byte .ensures .0) (c .before .before .before .before .before .before .before .before .before .before .before .before .before .before .before .before .before .before .before .before .before .byte2 .ensures .0) (c .before .before .before .before .before .before .before .before .before .before .before .before .before .before .before .before .before .before .before .before .flow-of .ensures r m e) (c .before .before .before .before .before .before .before .before .before .before .columns .ensures))
+
+pub put-plan-spec : {M : Type 1} → statement M
+put-plan-spec =
+    tie.close
+    (tie.spec
+    byte-requires
+    byte-requires-2
+    (λ c κs. search needs)
+    columns-requires
+    lay-requires
+    (λ c. search needs)
+    returns)

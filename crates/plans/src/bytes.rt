@@ -1,0 +1,104 @@
+// The plan's bytes, written and compared.
+ghost use mathlib.Core.Path.{_≡_};
+ghost use mathlib.Core.List.{List, _++_};
+ghost use mathlib.Core.Bool.{cond};
+ghost use Prim.Native.Nat.{ℕ, _+_, _*_, _≤_, _<_};
+ghost use lib.ListN.{length, getD};
+ghost use Rattle.paper.specs.Plan.{le16, same, headSize, entriesTo, planOf};
+ghost use Rattle.paper.specs.Rule.{Rule};
+ghost use Rattle.words.specs.Words.{over};
+ghost use Rattle.plans.specs.Laid.{Laid, Placed, Room};
+
+// Whether the bytes are the same, all of them.
+pub fn equal(x: &[u8], y: &[u8]) -> bool
+    ensures { λ r. ⌜ r ≡ same (now (x .entry)) (now (y .entry)) ⌝ }
+{
+    let n = x.len();
+    if n != y.len() {
+        return false;
+    }
+    let mut i = 0;
+    while i < n {
+        if x[i] != y[i] {
+            return false;
+        }
+        i += 1;
+    }
+    true
+}
+
+fn one_if(b: bool) -> u16
+    ensures { λ r. ⌜ r ≡ cond b 1 0 ⌝ }
+{
+    if b { 1 } else { 0 }
+}
+
+// A block's entry: the offset of its body, its input and output masks, and whether it is in J.
+pub fn put_entry(out: &mut [u8], at: usize, offset: u16, ins: u16, outs: u16, in_j: bool)
+    requires { ⌜ at + 8 ≤ length (now out) ⌝ }
+    ensures { λ _. ⌜ now (out .exit) ≡ over (now (out .entry)) at (le16 offset ++ (le16 ins ++ (le16 outs ++ le16 (cond in_j 1 0)))) ⌝ }
+{
+    words::put16_at(out, at, offset);
+    words::put16_at(out, at + 2, ins);
+    words::put16_at(out, at + 4, outs);
+    words::put16_at(out, at + 6, one_if(in_j));
+}
+
+// The entries of n blocks, one after the other from byte 6 on.
+pub fn put_entries(
+    out: &mut [u8],
+    n: usize,
+    places: &[usize; 65],
+    inputs: &[u16; 64],
+    outputs: &[u16; 64],
+    j: &[bool; 64],
+)
+    requires { ⌜ (n ≤ 64) × ((6 + 8 * n ≤ length (now out)) × Placed n (now places)) ⌝ }
+    ensures { λ _. ⌜ ((r : Rule) (s : List ℕ) → Laid r s n (now (places .entry)) (now (inputs .entry)) (now (outputs .entry)) (now (j .entry))
+        → now (out .exit) ≡ over (now (out .entry)) 6 (entriesTo r s n)) ⌝ }
+{
+    let mut b = 0;
+    while b < n {
+        let place = places[b];
+        let offset = (place + 2 + 8 * n) as u16;
+        put_entry(out, 6 + 8 * b, offset, inputs[b], outputs[b], j[b]);
+        b += 1;
+    }
+}
+
+// A byte as a number.
+pub fn byte(s: &[u8], at: usize) -> usize
+    requires { ⌜ at < length (now s) ⌝ }
+    ensures { λ r. ⌜ (r ≡ getD (now (s .entry)) at 0) × (r ≤ 255) ⌝ }
+{
+    s[at] as usize
+}
+
+// The bytes of a plan of n blocks before the blocks' bodies.
+pub fn head_size(n: usize) -> usize
+    requires { ⌜ n ≤ 255 ⌝ }
+    ensures { λ r. ⌜ r ≡ headSize n ⌝ }
+{
+    6 + 8 * n
+}
+
+// A plan's bytes from the start of out: the header, LC, the entries, the rule without its header.
+pub fn lay(
+    rule: &[u8],
+    out: &mut [u8],
+    n: usize,
+    places: &[usize; 65],
+    inputs: &[u16; 64],
+    outputs: &[u16; 64],
+    j: &[bool; 64],
+)
+    requires { ⌜ Room n (now rule) (now out) (now places) ⌝ }
+    ensures { λ _. ⌜ ((r : Rule) → Laid r (now (rule .entry)) n (now (places .entry)) (now (inputs .entry)) (now (outputs .entry)) (now (j .entry))
+        → now (out .exit) ≡ over (now (out .entry)) 0 (planOf r (now (rule .entry)))) ⌝ }
+{
+    let head = head_size(n);
+    words::copy_bytes_at(out, 0, &rule[..4]);
+    words::put16_at(out, 4, inputs[0]);
+    put_entries(out, n, places, inputs, outputs, j);
+    words::copy_bytes_at(out, head, &rule[4..]);
+}
