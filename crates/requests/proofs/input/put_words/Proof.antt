@@ -1,0 +1,30 @@
+-- `requests::input::put_words` is safe and ends: the buffer keeps its length. Assumes nothing.
+use Prim.Native.Nat.{_-_}
+use mathlib.Core.Path.{_≡_}
+use native.Mathlib.Omega.{arith}
+use lib.ListN.{length, length-set}
+use Rattle.requests.proofs.input.put_words.Statement.{statement}
+use Rattle.requests.proofs.input.put_words.Tie as tie
+
+abbrev Inv-loop : tie.InvT-loop
+Inv-loop raw buf₀ i₀ buf i = length buf ≡ length buf₀
+
+abbrev μ-loop : tie.MeasureT-loop
+μ-loop raw buf₀ i₀ buf i = length buf - i
+
+pub put-words-spec : {M : Type 1} → statement M
+put-words-spec =
+    tie.close
+    (tie.spec
+    Inv-loop
+    μ-loop
+    (λ c. omega arith)
+    (λ c. omega arith)
+    (λ c κs. omega arith)
+    (λ c. omega arith)
+    (λ c. omega arith)
+    (λ c. omega arith)
+    (λ c. simp length-set (omega arith))
+    (λ c. simp length-set (omega arith))
+    (λ c. omega arith)
+    (λ c. tt))
