@@ -8,9 +8,8 @@ use Rattle.paper.specs.Values.{Val, Out, value, fault, also}
 use Rattle.paper.specs.Rule.{End, Goto, Jump, Stop, If}
 use Rattle.paper.specs.Meaning.{holds}
 use Rattle.paper.specs.Direct.{Exit, toBlock, toRound, exit}
-use Rattle.paper.specs.Columns.{jumpsTo, leadsTo}
+use Rattle.paper.specs.Columns.{goesTo, jumpsTo, leadsTo}
 use Rattle.paper.proofs.Tests.{or-left, or-right}
-use Rattle.columns.specs.Proper.{goesTo}
 
 pub record Named (e : End) (o : Out Exit) : Type 0 where
   pub goes : (t : ℕ) → o ≡ value (toBlock t) → goesTo e t ≡ true

@@ -53,12 +53,12 @@ module _ (q : ℕ) (Ok : Stmt → Type 0) (E L : List Val → Type 0)
   onward-kept (on env ls) f k h = h env ls (k .0) (k .1)
   onward-kept (ended st ls) f k h = k
 
-  steps-kept : (xs : List Stmt) (env ls : List Val) → ((s : Stmt) → List·Memᴰ s xs → Ok s) → E env → L ls → KeptWay E L (steps q xs env ls)
+  pub steps-kept : (xs : List Stmt) (env ls : List Val) → ((s : Stmt) → List·Memᴰ s xs → Ok s) → E env → L ls → KeptWay E L (steps q xs env ls)
   unfolding steps
   steps-kept [] env ls o e l = (e, l)
   steps-kept (s ∷ xs) env ls o e l = onward-kept (step q s env ls) _ (step-kept s env ls (o s (List·Memᴰ·head refl)) e l) (λ env ls e l. steps-kept xs env ls (λ s m. o s (List·Memᴰ·tail m)) e l)
 
-  leave-kept : (o : Out Exit) (env ls : List Val) (W : ℕ → Round) → E env → L ls → ((t : ℕ) → KeptRound E L (W t)) → KeptRound E L (leave o env ls W)
+  pub leave-kept : (o : Out Exit) (env ls : List Val) (W : ℕ → Round) → E env → L ls → ((t : ℕ) → KeptRound E L (W t)) → KeptRound E L (leave o env ls W)
   leave-kept (value (toBlock t)) env ls W e l h = h t
   leave-kept (value (toRound t)) env ls W e l h = (e, l)
   leave-kept (value toStop) env ls W e l h = (omega arith, l)

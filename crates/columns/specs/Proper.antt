@@ -1,17 +1,9 @@
 -- What the grammar sees to in every rule that it accepts, as far as the run on the plan's columns rests on it.
 use Prim.Native.Nat.{ℕ, _≤_, _<_}
 use mathlib.Core.Path.{_≡_}
-use mathlib.Core.Bool.{Bool, true, false, _||_}
-use lib.Dec.{eqb}
-use Rattle.paper.specs.Rule.{End, Goto, Jump, Stop, If, Rule, size, blockOf}
-use Rattle.paper.specs.Columns.{readFirst, sets, leadsTo}
-
--- the blocks that an ending names by a goto
-unfoldable pub goesTo : End → ℕ → Bool
-goesTo (Goto u) t = eqb u t
-goesTo (Jump u) t = false
-goesTo Stop t = false
-goesTo (If c x y) t = goesTo x t || goesTo y t
+use mathlib.Core.Bool.{true}
+use Rattle.paper.specs.Rule.{Rule, size, blockOf}
+use Rattle.paper.specs.Columns.{readFirst, sets, goesTo, leadsTo}
 
 pub record Proper (r : Rule) : Type 0 where
   pub entry : 0 < size r

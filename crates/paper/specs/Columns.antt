@@ -40,6 +40,13 @@ sets [] k = false
 sets (Set x a ∷ xs) k = eqb x k || sets xs k
 sets (Emit a ∷ xs) k = sets xs k
 
+-- the blocks that an ending names by a goto
+unfoldable pub goesTo : End → ℕ → Bool
+goesTo (Goto u) t = eqb u t
+goesTo (Jump u) t = false
+goesTo Stop t = false
+goesTo (If c x y) t = goesTo x t || goesTo y t
+
 -- the blocks that an ending names by a jump, and by a goto or a jump
 unfoldable pub jumpsTo : End → ℕ → Bool
 jumpsTo (Goto u) t = false

@@ -9,6 +9,7 @@ use Rattle.paper.specs.Grammar.{Got, got, refused, ruleOf, blockAt, longest}
 use Rattle.paper.specs.Columns.{flowOf, inputsOf, outputsOf, LC}
 use Rattle.paper.specs.Plan.{le16, maskOf, placeOf, headSize, entryOf, carried, planned, planOf, planSize}
 use Rattle.paper.specs.Pages.{wordAt}
+use Rattle.columns.specs.Proper.{Proper}
 use Rattle.rules.specs.Accepted.{RuleIn}
 use Rattle.rules.proofs.Accepted.{rule-in}
 use Rattle.rules.proofs.Places.{block-stands, rule-end}
@@ -19,6 +20,7 @@ use Rattle.plans.specs.Taken.{takenOf, Taking}
 use Rattle.plans.specs.Accepted.{treeOf, ruleIn, Accepted}
 use Rattle.plans.proofs.Fields.{word-le16, word-past, plan-length, plan-lc, plan-entry, plan-byte}
 use Rattle.plans.proofs.Accepted.{Plan, is-plan}
+use Rattle.plans.proofs.Proper.{proper}
 use Rattle.plans.proofs.Ruling.{rule-long}
 
 -- ---- an accepted plan, from the answer of `take`
@@ -48,6 +50,9 @@ module _ (p : List ℕ) (a : Accepted p) where
 
   pub carried-in : RuleIn (carried p) (ruleIn p)
   carried-in = rule-in (carried p) (ruleIn p) (a .next) carried-rule
+
+  pub carried-proper : Proper (ruleIn p)
+  carried-proper = proper (carried p) (ruleIn p) (a .next) carried-rule
 
   long : 4 ≤ length (carried p)
   long = rule-long (carried p) (ruleIn p) (a .next) carried-rule

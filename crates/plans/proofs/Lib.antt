@@ -5,4 +5,6 @@ pub mod Laying
 pub mod Ruling
 pub mod Compiling
 pub mod Taking
+pub mod Proper
 pub mod Carried
+pub mod Promises

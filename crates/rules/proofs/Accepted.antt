@@ -9,11 +9,11 @@ use lib.ListN.{length, getD, length-append, List·getD-append, List·getD-eq-def
 use lib.Seq.{getD-at}
 use borrow.Author.Tests.{ltb-true, ltb-false, leb-true, eqb-true, eqb-false, not-false}
 use Rattle.paper.specs.Rule.{Stmt, Set, Emit, End, Goto, Jump, Stop, If, Block, Rule, size, blockOf}
-use Rattle.paper.specs.Columns.{reads, looks, endLooks, readFirst, sets, leadsTo}
+use Rattle.paper.specs.Columns.{reads, looks, endLooks, readFirst, sets, goesTo, leadsTo}
 use Rattle.paper.specs.Grammar.{Got, got, refused, then, one, ahead, anywhere, depth, levels, setAt, emitAt, endAt, endBody, endTag, EndTag, gotoTag, jumpTag, stopTag, ifTag, badEnd}
 use Rattle.paper.specs.Grammar.{StmtTag, setTag, emitTag, noStmt, stmtTag, after, blockBody, blockFrom, between, formIn, variablesIn, argumentsIn, blocksIn, headed, blocksTo, wholeRule, ruleOf}
 use Rattle.rules.specs.Readings.{stmtAt, stmtBody}
-use Rattle.rules.specs.Accepted.{gotosTo, Below, ExprIn, CondIn, StmtIn, BodyIn, EndIn, BlockIn, noBlock, RuleIn}
+use Rattle.rules.specs.Accepted.{Below, ExprIn, CondIn, StmtIn, BodyIn, EndIn, BlockIn, noBlock, RuleIn}
 use Rattle.rules.proofs.Sound.{Sound, both, nothing, single, earlier, refusal, found, next, made, pair, tagged, choice, tested, deep, variable-sound, expr-sound, cond-sound, sound-got}
 
 -- both tests pass
@@ -59,23 +59,23 @@ module _ (n b v : ℕ) where
   In = EndIn n b v
 
   goto-in : (t : ℕ) → (b < t) × (t < n) → In (Goto t)
-  unfolding endLooks leadsTo gotosTo
+  unfolding endLooks leadsTo goesTo
   goto-in t h = record { variables-exist = nothing (λ k. k < v); targets-exist = single (λ u. u < n) t (h .1); gotos-rise = single (λ u. b < u) t (h .0) }
 
   jump-in : (t : ℕ) → t < n → In (Jump t)
-  unfolding endLooks leadsTo gotosTo
+  unfolding endLooks leadsTo goesTo
   jump-in t h = record { variables-exist = nothing (λ k. k < v); targets-exist = single (λ u. u < n) t h; gotos-rise = nothing (λ u. b < u) }
 
   stop-in : In Stop
-  unfolding endLooks leadsTo gotosTo
+  unfolding endLooks leadsTo goesTo
   stop-in = record { variables-exist = nothing (λ k. k < v); targets-exist = nothing (λ u. u < n); gotos-rise = nothing (λ u. b < u) }
 
   if-in : (c : _) → CondIn v c → (x y : End) → In x → In y → In (If c x y)
-  unfolding endLooks leadsTo gotosTo
+  unfolding endLooks leadsTo goesTo
   if-in c h x y f g = record {
     variables-exist = both (λ k. k < v) (looks c) _ h (both (λ k. k < v) (endLooks x) (endLooks y) (f .variables-exist) (g .variables-exist));
     targets-exist = both (λ u. u < n) (leadsTo x) (leadsTo y) (f .targets-exist) (g .targets-exist);
-    gotos-rise = both (λ u. b < u) (gotosTo x) (gotosTo y) (f .gotos-rise) (g .gotos-rise);
+    gotos-rise = both (λ u. b < u) (goesTo x) (goesTo y) (f .gotos-rise) (g .gotos-rise);
   }
 
   module _ (s : List ℕ) where
@@ -197,7 +197,7 @@ module _ (s : List ℕ) where
     pub targets-exist : (b t : ℕ) → leadsTo (blockOf r b .ending) t ≡ true → t < size r
     targets-exist b t h = rule-in .block-in b .ending-in .targets-exist t h
 
-    pub gotos-rise : (b t : ℕ) → gotosTo (blockOf r b .ending) t ≡ true → b < t
+    pub gotos-rise : (b t : ℕ) → goesTo (blockOf r b .ending) t ≡ true → b < t
     gotos-rise b t h = rule-in .block-in b .ending-in .gotos-rise t h
 
     pub reads-exist : (b k : ℕ) → readFirst (blockOf r b .body) (blockOf r b .ending) k ≡ true → k < r .variables

@@ -1,5 +1,5 @@
 -- What the calls on files come to, from what the pages and the reader answer. Assumes nothing.
-use Prim.Native.Nat.{ℕ, _+_, _*_, _/_, _≤_, _<_}
+use Prim.Native.Nat.{ℕ, _*_, _≤_, _<_}
 use mathlib.Core.Path.{_≡_, refl, sym, ap, _∙_}
 use mathlib.Core.List.{List, _++_}
 use native.Mathlib.Omega.{arith}
@@ -13,7 +13,6 @@ use Rattle.paper.specs.Pages.{fileOf, unpacked, pagesFor}
 use Rattle.paper.specs.Calls.{refusal, toRead, toWrite, replyIn, bytesOf, Wrote}
 use Rattle.paper.specs.declared.Refusal.{Refusal}
 use Rattle.paper.specs.declared.Read.the-variants as read
-use Rattle.paper.specs.declared.Reply.{Reply}
 use Rattle.paper.specs.declared.Reply.the-variants.{Done, Refused}
 use Rattle.pages.specs.Answers.{scanOf}
 use Rattle.pages.proofs.Writing.{length-file}

@@ -11,20 +11,27 @@ use borrow.Author.Tests.{ltb-false, eqb-true, eqb-false}
 use Rattle.paper.specs.Rule.{Block, Rule, size, blockOf}
 use Rattle.paper.specs.Grammar.{Got, got, refused, then, readOf, one, blockAt, variablesIn, argumentsIn, blocksTo, wholeRule, ruleOf}
 use Rattle.paper.specs.Plan.{endOf, placeOf}
+use Rattle.paper.specs.declared.Read.the-variants.{Next}
 use Rattle.rules.specs.Readings.{headerAt}
 use Rattle.rules.specs.Accepted.{noBlock, RuleIn}
 use Rattle.rules.proofs.Sound.{sound-got}
 use Rattle.rules.proofs.Accepted.{First, blocks-sound, rule-sound, rule-in}
 use Rattle.rules.proofs.RuleLaws.{blocks, rule-is, header-there}
 
+-- where what was read ends
+pub next-place : {A : Type 0} (p : Got A) (n : ℕ) → readOf p ≡ Next n → n ≡ endOf p
+unfolding readOf
+next-place (got a m) n e = cc
+next-place (refused k q) n e = let z : _≡_ {A = ℕ} 0 1 = cc in absurd (omega arith)
+
 -- what was read first, where one reading after another came to b
-record Through {A B : Type 0} (p : Got A) (f : A → ℕ → Got B) (b : B) (n : ℕ) : Type 0 where
+pub record Through {A B : Type 0} (p : Got A) (f : A → ℕ → Got B) (b : B) (n : ℕ) : Type 0 where
   pub first : A
   pub place : ℕ
   pub was : p ≡ got first place
   pub then-was : f first place ≡ got b n
 
-through : {A B : Type 0} (p : Got A) (f : A → ℕ → Got B) (b : B) (n : ℕ) → then p f ≡ got b n → Through p f b n
+pub through : {A B : Type 0} (p : Got A) (f : A → ℕ → Got B) (b : B) (n : ℕ) → then p f ≡ got b n → Through p f b n
 through (got a m) f b n e = record { first = a; place = m; was = refl; then-was = e }
 through (refused k q) f b n e = let z : _≡_ {A = ℕ} 0 1 = cc in absurd (omega arith)
 
@@ -97,9 +104,12 @@ module _ (s : List ℕ) (r : Rule) (n : ℕ) (e : ruleOf s ≡ got r n) where
       let y = read .1 in
       rw (i .blocks-are, i .variables-are) (cc)
 
-  pub block-stands : (b : ℕ) → b < size r → blockAt (size r) b (r .variables) s (placeOf r s b) ≡ got (blockOf r b) (placeOf r s (suc b))
+  pub rule-header : 4 ≤ length s
   unfolding readOf
-  block-stands b h = stands (size r) (r .variables) s (header-there s (head .place) (ap readOf (head .was))) (size r) (r .blocks) n rule-blocks b h
+  rule-header = header-there s (head .place) (ap readOf (head .was))
+
+  pub block-stands : (b : ℕ) → b < size r → blockAt (size r) b (r .variables) s (placeOf r s b) ≡ got (blockOf r b) (placeOf r s (suc b))
+  block-stands b h = stands (size r) (r .variables) s rule-header (size r) (r .blocks) n rule-blocks b h
 
   pub last-place : placeOf r s (size r) ≡ length s
   last-place = ap endOf rule-blocks ∙ rule-end

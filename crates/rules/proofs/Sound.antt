@@ -12,8 +12,7 @@ use Rattle.paper.specs.Rule.{Expr, Cond, Const, Var, Neg, Op, Case, Compare, No
 use Rattle.paper.specs.Columns.{reads, looks}
 use Rattle.paper.specs.Grammar.{Got, got, refused, then, readOf, byteAt, one, two, constantAt, variableAt, exprAt, condAt, exprBody, condBody, exprTag, condTag}
 use Rattle.paper.specs.Grammar.{ExprTag, constTag, varTag, negTag, caseTag, badExpr, opTag, CondTag, notTag, badCond, compareTag, joinTag}
-use Rattle.paper.specs.declared.Refusal.{Refusal}
-use Rattle.paper.specs.declared.Read.the-variants.{Next, Refused}
+use Rattle.paper.specs.declared.Read.the-variants.{Next}
 use Rattle.rules.specs.Accepted.{Each, ExprIn, CondIn}
 
 -- of a reading at a place of so many bytes
@@ -160,13 +159,9 @@ module _ {A : Type 0} (P : A → Type 0) (at size : ℕ) (p : Got A) (g : Sound 
       go (got a m) g e = let q : m ≡ n = cc in (omega arith, omega arith)
       go (refused k q) g e = let z : _≡_ {A = ℕ} 0 1 = cc in absurd (omega arith)
 
-  pub sound-refused : (r : Refusal) → readOf p ≡ Refused r → (4 ≤ r .number) × (r .number ≤ 10) × (r .place ≤ size)
-  unfolding Sound readOf
-  sound-refused r e = go p g e
-    where
-      go : (p : Got A) → Sound P at size p → readOf p ≡ Refused r → (4 ≤ r .number) × (r .number ≤ 10) × (r .place ≤ size)
-      go (got a m) g e = let z : _≡_ {A = ℕ} 0 1 = cc in absurd (omega arith)
-      go (refused k q) g e = let f : record { number = k; place = q } ≡ r = cc in rw (← f) g
+  pub sound-refused : (k q : ℕ) → p ≡ refused k q → (4 ≤ k) × (k ≤ 10) × (q ≤ size)
+  unfolding Sound
+  sound-refused k q e = rw e at g
 
   pub sound-got : (a : A) (n : ℕ) → p ≡ got a n → (at < n) × (n ≤ size) × P a
   unfolding Sound

@@ -1,19 +1,11 @@
 -- What can be relied on in a rule that is accepted: its variables exist, its targets exist, and its gotos rise. Assumes nothing: these are definitions.
 use Prim.Native.Nat.{ℕ, _<_, _≤_}
 use mathlib.Core.Path.{_≡_}
-use mathlib.Core.Bool.{Bool, true, false, _||_}
+use mathlib.Core.Bool.{Bool, true}
 use mathlib.Core.List.{List, [], _∷_}
-use lib.Dec.{eqb}
-use Rattle.paper.specs.Rule.{Expr, Cond, Stmt, Set, Emit, End, Goto, Jump, Stop, If, Block, Rule, size, blockOf}
+use Rattle.paper.specs.Rule.{Expr, Cond, Stmt, Set, Emit, End, Stop, Block, Rule, size, blockOf}
 use Rattle.paper.specs.Grammar.{variablesIn, argumentsIn, blocksIn}
-use Rattle.paper.specs.Columns.{reads, looks, endLooks, leadsTo}
-
--- the blocks that an ending names by a goto
-unfoldable pub gotosTo : End → ℕ → Bool
-gotosTo (Goto u) t = eqb u t
-gotosTo (Jump u) t = false
-gotosTo Stop t = false
-gotosTo (If c x y) t = gotosTo x t || gotosTo y t
+use Rattle.paper.specs.Columns.{reads, looks, endLooks, goesTo, leadsTo}
 
 -- of all that a set holds, P; or that it lies below a bound
 abbrev pub Each : (ℕ → Type 0) → (ℕ → Bool) → Type 0
@@ -41,7 +33,7 @@ BodyIn v (x ∷ xs) = StmtIn v x × BodyIn v xs
 pub record EndIn (n b v : ℕ) (e : End) : Type 0 where
   pub variables-exist : Below v (endLooks e)
   pub targets-exist : Below n (leadsTo e)
-  pub gotos-rise : Each (λ t. b < t) (gotosTo e)
+  pub gotos-rise : Each (λ t. b < t) (goesTo e)
 
 pub record BlockIn (n b v : ℕ) (x : Block) : Type 0 where
   pub body-in : BodyIn v (x .body)

@@ -1,3 +1,4 @@
 pub mod Readings
 pub mod Accepted
 pub mod Opened
+pub mod Replies

@@ -1,0 +1,32 @@
+-- Variables are kept by the bits of a mask, walked by halving it. Assumes nothing.
+use Prim.Native.Nat.{ℕ, zero, suc, _+_, _/_, _%_, _^_, _<_}
+use native.Mathlib.Numerals.{add-one}
+use native.Mathlib.Nat.{pow-suc, div-div-eq-div-mul}
+use native.Mathlib.Omega.{arith}
+use mathlib.Core.Path.{_≡_, refl}
+use mathlib.Core.Bool.{Bool}
+use mathlib.Core.List.{List}
+use lib.IntN.{pos}
+use lib.ListN.{set}
+use Rattle.paper.specs.Values.{Val}
+use Rattle.columns.specs.OnPlan.{kept}
+use Rattle.rounds.specs.Run.{bitOf}
+
+-- the next bit
+pub halved : (mask k : ℕ) → mask / 2 ^ k / 2 ≡ mask / 2 ^ (k + 1)
+halved mask k = rw (add-one, pow-suc) (div-div-eq-div-mul mask (2 ^ k) 2)
+
+module _ (mask k : ℕ) (env : List Val) where
+  pub kept-out : mask / 2 ^ k % 2 ≡ 0 → set (kept k (bitOf mask) env) k (pos 0) ≡ kept (k + 1) (bitOf mask) env
+  unfolding kept
+  kept-out e = rw (add-one, e)
+
+  pub kept-in : (mask / 2 ^ k % 2 ≡ 0 → ⊥) → kept k (bitOf mask) env ≡ kept (k + 1) (bitOf mask) env
+  unfolding kept
+  kept-in e = let one : mask / 2 ^ k % 2 ≡ 1 = omega arith in rw (add-one, one)
+
+-- sets that hold the same variables below v keep the same
+pub kept-same : (v : ℕ) (f g : ℕ → Bool) (env : List Val) → ((k : ℕ) → k < v → f k ≡ g k) → kept v f env ≡ kept v g env
+unfolding kept
+kept-same zero f g env h = refl
+kept-same (suc v) f g env h = rw (h v (omega arith), kept-same v f g env (λ k l. h k (omega arith)))

@@ -1,0 +1,11 @@
+pub mod Tags
+pub mod Table
+pub mod Reading
+pub mod Skipping
+pub mod Answers
+pub mod Evaluating
+pub mod Ending
+pub mod Stepping
+pub mod Keeping
+pub mod Passing
+pub mod Rounding

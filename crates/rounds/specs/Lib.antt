@@ -1,0 +1,4 @@
+pub mod Skip
+pub mod Answer
+pub mod Run
+pub mod Round

@@ -1,0 +1,37 @@
+-- When each reply is given by a call that takes a file, and by the one that writes a file: a constructor to a row of 01's table of reply numbers, and
+-- one for the size that is written where no row holds. Assumes nothing: these are definitions.
+use Prim.Native.Nat.{ℕ, _≤_, _<_}
+use mathlib.Core.Path.{_≡_}
+use mathlib.Core.List.{List}
+use lib.ListN.{length}
+use Rattle.paper.specs.Rule.{Rule}
+use Rattle.paper.specs.Grammar.{got, refused, ruleOf, longest}
+use Rattle.paper.specs.Pages.{fileOf, unpacked}
+use Rattle.paper.specs.Calls.{refusal}
+use Rattle.paper.specs.declared.Reply.{Reply}
+use Rattle.paper.specs.declared.Reply.the-variants.{Done}
+use Rattle.pages.specs.Refusals.{Refuses}
+
+-- what a call writes of a rule with the bytes s
+abbrev pub Make : Type 0
+Make = Rule → List ℕ → List ℕ
+
+-- the bytes s are there, and there is so much room for what is made of their rule: 4 to 10 as the grammar gives them, then 12
+pub data OfRule (make : Make) (s : List ℕ) (room : ℕ) : Reply → Type 0 where
+  bad : {k p : ℕ} → ruleOf s ≡ refused k p → 4 ≤ k → k ≤ 10 → p ≤ length s → OfRule make s room (refusal k p)
+  short : {r : Rule} {n : ℕ} → ruleOf s ≡ got r n → room < length (make r s) → OfRule make s room (refusal 12 0)
+  done : {r : Rule} {n : ℕ} → ruleOf s ≡ got r n → length (make r s) ≤ room → OfRule make s room (Done (length (make r s)))
+
+-- a file is taken: 1, 2 and 3, then what its bytes give
+pub data OfFile (make : Make) (file : List ℕ) (room : ℕ) : Reply → Type 0 where
+  page : {k p : ℕ} → Refuses file k p → OfFile make file room (refusal k p)
+  holds : {s : List ℕ} {n : ℕ} {q : Reply} → unpacked file ≡ got s n → OfRule make s room q → OfFile make file room q
+
+-- reading gives back the bytes; a file that compiles gives its plan in the same way
+abbrev pub ToRead : List ℕ → ℕ → Reply → Type 0
+ToRead file room q = OfFile (λ r s. s) file room q
+
+-- writing: 11, then what the bytes give
+pub data ToWrite (s : List ℕ) (room : ℕ) : Reply → Type 0 where
+  long : longest < length s → ToWrite s room (refusal 11 0)
+  may : {q : Reply} → length s ≤ longest → OfRule (λ r s. fileOf s) s room q → ToWrite s room q
