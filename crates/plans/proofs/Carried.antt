@@ -5,20 +5,20 @@ use mathlib.Core.List.{List, []}
 use native.Mathlib.Omega.{arith}
 use lib.ListN.{length, take, getD}
 use Rattle.paper.specs.Rule.{Rule, size, blockOf}
-use Rattle.paper.specs.Grammar.{Got, got, refused, ruleOf, blockAt, longest}
+use Rattle.paper.specs.Grammar.{Got, got, refused, ruleOf, blockAt}
 use Rattle.paper.specs.Columns.{flowOf, inputsOf, outputsOf, LC}
-use Rattle.paper.specs.Plan.{le16, maskOf, placeOf, headSize, entryOf, carried, planned, planOf, planSize}
+use Rattle.paper.specs.Plan.{maskOf, placeOf, headSize, entryOf, carried, planned, planSize}
 use Rattle.paper.specs.Pages.{wordAt}
 use Rattle.columns.specs.Proper.{Proper}
 use Rattle.rules.specs.Accepted.{RuleIn}
 use Rattle.rules.proofs.Accepted.{rule-in}
-use Rattle.rules.proofs.Places.{block-stands, rule-end}
+use Rattle.rules.proofs.Places.{block-stands}
 use Rattle.flows.proofs.Flow.{place-past}
 use Rattle.plans.specs.declared.Taken.{Taken}
 use Rattle.plans.specs.declared.Taken.the-variants as taken
 use Rattle.plans.specs.Taken.{takenOf, Taking}
 use Rattle.plans.specs.Accepted.{treeOf, ruleIn, Accepted}
-use Rattle.plans.proofs.Fields.{word-le16, word-past, plan-length, plan-lc, plan-entry, plan-byte}
+use Rattle.plans.proofs.Fields.{word-le16, plan-length, plan-lc, plan-entry, plan-byte}
 use Rattle.plans.proofs.Accepted.{Plan, is-plan}
 use Rattle.plans.proofs.Proper.{proper}
 use Rattle.plans.proofs.Ruling.{rule-long}

@@ -1,13 +1,13 @@
 -- What compiling comes to, from what opening the file left. Assumes nothing.
-use Prim.Native.Nat.{ℕ, _≤_, _<_}
+use Prim.Native.Nat.{ℕ, _≤_}
 use mathlib.Core.Path.{_≡_, refl, sym, ap, _∙_}
 use mathlib.Core.List.{List}
 use native.Mathlib.Omega.{arith}
-use lib.ListN.{length, take, getD, length-take}
+use lib.ListN.{length, take, getD}
 use lib.Seq.{getD-take}
 use Rattle.words.specs.Words.{over}
-use Rattle.paper.specs.Rule.{Rule, size}
-use Rattle.paper.specs.Grammar.{Got, got, refused, then, ruleOf, blocksIn, longest}
+use Rattle.paper.specs.Rule.{Rule}
+use Rattle.paper.specs.Grammar.{Got, got, refused, then, ruleOf, blocksIn}
 use Rattle.paper.specs.Plan.{planOf, planSize, endOf}
 use Rattle.paper.specs.Pages.{unpacked}
 use Rattle.paper.specs.Calls.{toRead, toCompile, bytesOf, Wrote}

@@ -1,8 +1,7 @@
 -- Where each number stands in a plan, and what a plan carries. Assumes nothing.
-use Prim.Native.Nat.{ℕ, zero, suc, _+_, _-_, _*_, _/_, _%_, _≤_, _<_}
+use Prim.Native.Nat.{ℕ, zero, suc, _+_, _*_, _≤_, _<_}
 use mathlib.Core.Path.{_≡_, refl, sym, ap, _∙_}
-use mathlib.Core.Bool.{cond}
-use mathlib.Core.List.{List, [], _∷_, _++_, append-assoc, append-nil}
+use mathlib.Core.List.{List, [], _++_, append-assoc, append-nil}
 use mathlib.Core.Logic.{⊎-elim}
 use native.Mathlib.Omega.{arith}
 use native.Mathlib.Nat.{le-of-suc-le-suc, eq-or-lt-of-le}
@@ -10,8 +9,8 @@ use lib.ListN.{length, take, drop, getD, length-append, length-drop, take-append
 use lib.Seq.{take-at, drop-at, getD-append-add, getD-take, drop-append-le, length-take-le}
 use Rattle.paper.specs.Rule.{Rule, size}
 use Rattle.paper.specs.Grammar.{blocksIn}
-use Rattle.paper.specs.Columns.{flowOf, inputsOf, outputsOf, LC}
-use Rattle.paper.specs.Plan.{le16, maskOf, placeOf, headSize, entryOf, entriesTo, planOf, planSize, carried}
+use Rattle.paper.specs.Columns.{flowOf, LC}
+use Rattle.paper.specs.Plan.{le16, maskOf, headSize, entryOf, entriesTo, planOf, planSize, carried}
 use Rattle.paper.specs.Pages.{wordAt}
 
 -- a number's two bytes are the number

@@ -6,7 +6,7 @@ use mathlib.Core.List.{List}
 use native.Mathlib.Omega.{arith}
 use lib.ListN.{length, getD}
 use Rattle.paper.specs.Rule.{Rule, size}
-use Rattle.paper.specs.Grammar.{got, ruleOf, variablesIn, blocksIn, longest}
+use Rattle.paper.specs.Grammar.{got, ruleOf, variablesIn, blocksIn}
 use Rattle.paper.specs.Columns.{Flow, flowOf, inputsOf, outputsOf}
 use Rattle.paper.specs.Plan.{maskOf, placeOf, planSize}
 use Rattle.rules.specs.Accepted.{RuleIn}
@@ -16,7 +16,7 @@ use Rattle.rules.proofs.Places.{block-stands}
 use Rattle.closure.specs.Tables.{Tables}
 use Rattle.flows.specs.Flow.{Ruled, Told}
 use Rattle.flows.proofs.Flow.{place-past, place-within}
-use Rattle.plans.specs.Laid.{Laid, Placed, Room}
+use Rattle.plans.specs.Laid.{Laid, Room}
 
 -- a rule has a header
 pub rule-long : (s : List ℕ) (r : Rule) (m : ℕ) → ruleOf s ≡ got r m → 4 ≤ length s

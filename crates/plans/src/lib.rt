@@ -9,7 +9,7 @@ ghost use Prim.Native.Nat.{ℕ, _≤_};
 ghost use lib.ListN.{length, take};
 ghost use Rattle.paper.specs.Rule.{Rule};
 ghost use Rattle.paper.specs.Grammar.{got, ruleOf, blocksIn, longest};
-ghost use Rattle.paper.specs.Plan.{planOf, planSize, headSize, same};
+ghost use Rattle.paper.specs.Plan.{planOf, planSize, same};
 ghost use Rattle.paper.specs.Calls.{Wrote, toCompile};
 ghost use Rattle.flows.specs.Flow.{Ruled};
 ghost use Rattle.words.specs.Words.{over};

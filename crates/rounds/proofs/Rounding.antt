@@ -1,17 +1,14 @@
 -- One block after the other on a plan is the walk on its columns. Assumes nothing.
-use Prim.Native.Nat.{ℕ, zero, suc, _+_, _-_, _*_, _≤_, _<_}
+use Prim.Native.Nat.{ℕ, suc, _+_, _-_, _*_, _≤_, _<_}
 use Prim.{Unit, tt}
 use mathlib.Core.Path.{_≡_, refl, sym, ap, _∙_}
-use mathlib.Core.Bool.{Bool, true, false, cond}
+use mathlib.Core.Bool.{Bool}
 use mathlib.Core.List.{List, []}
 use native.Mathlib.Omega.{arith}
-use native.Mathlib.Numerals.{add-one}
-use lib.Dec.{eqb}
 use lib.ListN.{length, take, getD}
 use borrow.Author.Tests.{ne-eqb}
 use Rattle.paper.specs.Values.{Val, Out, value, fault}
-use Rattle.paper.specs.Rule.{Rule, End, Stmt, Block, size, blockOf}
-use Rattle.paper.specs.Grammar.{got, blockAt}
+use Rattle.paper.specs.Rule.{Rule, size, blockOf}
 use Rattle.paper.specs.Columns.{flowOf, inputsOf, outputsOf}
 use Rattle.paper.specs.Plan.{maskOf, placeOf, carried}
 use Rattle.paper.specs.Pages.{wordAt}

@@ -1,5 +1,4 @@
 -- `plans::compiles_to` meets its contract: the rule is compiled again, and every byte compared. Assumes nothing.
-use mathlib.Core.Path.{_≡_, sym, ap, _∙_}
 use borrow.Author.Needs.{needs}
 use native.Mathlib.Omega.{arith}
 use lib.ListN.{length-take}

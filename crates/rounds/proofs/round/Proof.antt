@@ -1,11 +1,9 @@
 -- `rounds::round` meets its contract. The loop's invariant: the walk that is left gives what the whole walk gives. Assumes nothing.
-use mathlib.Core.Path.{_≡_, refl, sym, ap, _∙_}
+use mathlib.Core.Path.{_≡_, refl}
 use borrow.Author.Needs.{needs}
 use native.Mathlib.Omega.{arith}
 use lib.ListN.{length}
-use Rattle.paper.specs.Direct.{Round}
-use Rattle.columns.specs.OnPlan.{planWalk}
-use Rattle.plans.proofs.Carried.{head-fits, carried-in, carried-proper, at-variables, at-blocks}
+use Rattle.plans.proofs.Carried.{head-fits, carried-in, carried-proper, at-variables}
 use Rattle.rounds.specs.Round.{Going}
 use Rattle.rounds.proofs.Rounding.{here, started, spent, walked-end, walked-jump, walked-on}
 use Rattle.rounds.proofs.round.Statement.{statement}

@@ -1,9 +1,7 @@
 -- `plans::bytes::lay` meets its contract: four writes, one right after the other, are the plan. Assumes nothing.
-use mathlib.Core.Path.{_≡_}
 use borrow.Author.Needs.{needs}
 use native.Mathlib.Omega.{arith}
-use lib.ListN.{length, take, length-take}
-use lib.Seq.{length-take-le}
+use lib.ListN.{length-take}
 use Rattle.plans.proofs.Laying.{whole-plan}
 use Rattle.plans.proofs.bytes.lay.Statement.{statement}
 use Rattle.plans.proofs.bytes.lay.Tie as tie
