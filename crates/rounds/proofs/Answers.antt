@@ -25,8 +25,8 @@ pub told : {A : Type 0} {x y z : A} → x ≡ y → x ≡ z → y ≡ z
 told p q = sym p ∙ q
 
 -- a value that a pattern binds is read back from its bits
-pub bound : {z : ℤ} → mag z < 2147483648 → toZ w32 (ofZ w32 z) ≡ z
-bound h = toZ-ofZ {w = w32} (record { sfits = h })
+pub bound : (z : ℤ) → mag z < 2147483648 → toZ w32 (ofZ w32 z) ≡ z
+bound z h = toZ-ofZ {w = w32} (record { sfits = h })
 
 pub got-is : {A : Type 0} (p : Got A) → Stands p → (a : A) × (n : ℕ) × (p ≡ got a n)
 unfolding Stands

@@ -18,7 +18,7 @@ use Rattle.paper.specs.declared.Flaw.{Flaw}
 use Rattle.values.specs.Tags.{operatorOf, relationOf, jointOf}
 use Rattle.values.proofs.Tags.{operator-tag, relation-tag, joint-tag}
 use Rattle.rounds.specs.Skip.{past}
-use Rattle.rounds.specs.Answer.{Stands, valueAt, answer, holding, pairOf, pairs, answers, picked, caseFrom}
+use Rattle.rounds.specs.Answer.{Sized, Stands, valueAt, answer, holding, pairOf, pairs, answers, picked, caseFrom}
 use Rattle.rounds.specs.declared.Evaluated.{Evaluated}
 use Rattle.rounds.specs.declared.Held.{Held}
 use Rattle.rounds.specs.declared.Both.{Both}
@@ -209,8 +209,8 @@ module _ (left v : ℕ) (s : List ℕ) (at : ℕ) (st : Stands (exprAt left v s 
       let c = variable-got s (at + 1) v (w .0) (g .1) (w .1) in
       (g .1, g .2 ∙ rw (w .2, c .2), c .3, c .0, c .1)
 
-  pub var-there : v ≤ 16 → getD s at 0 ≡ 0x02 → (at + 1 < length s) × (getD s (at + 1) 0 < 16)
-  var-there h e = let w = expr-var e in (w .3, omega (arith, w .4))
+  pub var-there : Sized v s → getD s at 0 ≡ 0x02 → (at + 1 < 4064) × (getD s (at + 1) 0 < 16)
+  var-there h e = let w = expr-var e in (omega (arith, w .3), omega (arith, w .4))
 
   pub var-answer : (env : List Val) (r : Evaluated) → getD s at 0 ≡ 0x02 → r ≡ Evaluated.Value (getD env (getD s (at + 1) 0) (pos 0)) (at + 1 + 1) → r ≡ answer (exprAt left v s at) env
   unfolding answer eval

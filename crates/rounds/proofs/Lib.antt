@@ -8,4 +8,5 @@ pub mod Ending
 pub mod Stepping
 pub mod Keeping
 pub mod Passing
+pub mod Longer
 pub mod Rounding

@@ -57,8 +57,8 @@ module _ (s : List ℕ) (at : ℕ) where
       let w = if-got (ltb (getD s at 0) v) (getD s at 0) (at + 1) 6 at k n (b .1) in
       (b .0, ltb-true (getD s at 0) v (w .0), w .1, w .2)
 
-  pub target-got : (allowed : ℕ → Bool) (k n : ℕ) → targetAt allowed s at ≡ got k n → (at < length s) × (k ≡ getD s at 0) × (n ≡ at + 1)
+  pub target-got : (allowed : ℕ → Bool) (k n : ℕ) → targetAt allowed s at ≡ got k n → (at < length s) × (k ≡ getD s at 0) × (n ≡ at + 1) × (allowed (getD s at 0) ≡ true)
   target-got allowed k n e =
       let b = byte-got s at (λ t n. cond (allowed t) (got t n) (refused 7 at)) k n e in
       let w = if-got (allowed (getD s at 0)) (getD s at 0) (at + 1) 7 at k n (b .1) in
-      (b .0, w .1, w .2)
+      (b .0, w .1, w .2, w .0)

@@ -22,9 +22,10 @@ use Rattle.plans.specs.Accepted.{ruleIn, Accepted}
 use Rattle.plans.proofs.Carried.{at-variables, at-blocks, at-offset, at-inputs, at-outputs, at-place}
 use Rattle.rounds.specs.declared.Went.{Went}
 use Rattle.rounds.specs.declared.Entry.{Entry}
-use Rattle.rounds.specs.Run.{BlockHere, bitOf, roundOf, labelsOf, leftBy, Passed}
+use Rattle.rounds.specs.Run.{Begins, BlockHere, bitOf, roundOf, labelsOf, leftBy, Passed}
 use Rattle.rounds.specs.Round.{Entered, endedAs, Walked, Going}
 use Rattle.rounds.proofs.Keeping.{kept-same}
+use Rattle.rounds.proofs.Longer.{block-over}
 
 module _ (p : List ℕ) (a : Accepted p) where
   abbrev r : Rule
@@ -39,14 +40,14 @@ module _ (p : List ℕ) (a : Accepted p) where
 
   module _ (b : ℕ) (h : b < size r) where
     -- the block stands where the entry says
-    abbrev pub here : (v′ : ℕ) (s : List ℕ) (at : ℕ) → v′ ≡ getD p 1 0 → s ≡ carried p → at ≡ placeOf r (carried p) b → BlockHere v′ s at
+    abbrev pub here : (v′ : ℕ) (s : List ℕ) (at : ℕ) → v′ ≡ getD p 1 0 → Begins (carried p) s → at ≡ placeOf r (carried p) b → BlockHere v′ s at
     here v′ s at ev es ea = record {
       bound = length (carried p);
       blocks = size r;
       block = b;
       what = blockOf r b;
       next = placeOf r (carried p) (suc b);
-      reads = rw (ev ∙ at-variables p a, es, ea) (at-place p a b h);
+      reads = rw (ev ∙ at-variables p a, ea) (block-over (size r) b v (carried p) s es (length (carried p)) (placeOf r (carried p) b) (blockOf r b) (placeOf r (carried p) (suc b)) (at-place p a b h));
     }
 
     -- what the entry's words say
@@ -69,7 +70,7 @@ module _ (p : List ℕ) (a : Accepted p) where
         omega (arith, eo ∙ ap (wordAt p) z ∙ at-offset p a b h, en ∙ at-blocks p a)
 
     -- ---- a block that was run, in the words of the walk
-    module _ {v′ : ℕ} {s : List ℕ} (ev : v′ ≡ getD p 1 0) (es : s ≡ carried p) {e : Entry} (said : Entered p b e)
+    module _ {v′ : ℕ} {s : List ℕ} (ev : v′ ≡ getD p 1 0) (es : Begins (carried p) s) {e : Entry} (said : Entered p b e)
         {q count : ℕ} {vars labels : List Val} {w : Went} {vars' labels' : List Val}
         (passed : (x : BlockHere v′ s (e .place)) → Passed v′ s (e .place) x (e .inputs) (e .outputs) q count vars labels w vars' labels') where
       ran : Passed v′ s (e .place) (here v′ s (e .place) ev es (said .place')) (e .inputs) (e .outputs) q count vars labels w vars' labels'
@@ -158,7 +159,7 @@ module _ {p : List ℕ} {q block count : ℕ} {vars₀ labels₀ : List Val} whe
   spent g e = record { round = rw e at (g .walk'); within = g .few }
 
   module _ (a : Accepted p) {left b n : ℕ} {vars labels : List Val} (g : Going p q block count vars₀ labels₀ left b n vars labels) (some : 0 < left)
-      {v′ : ℕ} {s : List ℕ} (ev : v′ ≡ getD p 1 0) (es : s ≡ carried p) {e : Entry} (said : Entered p b e) {w : Went} {vars' labels' : List Val}
+      {v′ : ℕ} {s : List ℕ} (ev : v′ ≡ getD p 1 0) (es : Begins (carried p) s) {e : Entry} (said : Entered p b e) {w : Went} {vars' labels' : List Val}
       (passed : (x : BlockHere v′ s (e .place)) → Passed v′ s (e .place) x (e .inputs) (e .outputs) q n vars labels w vars' labels') where
     more : planWalk (suc (left - 1)) (ruleIn p) q b vars (take n labels) ≡ planWalk (size (ruleIn p)) (ruleIn p) q block vars₀ (take count labels₀)
     more = let l : suc (left - 1) ≡ left = omega arith in ap (λ f. planWalk f (ruleIn p) q b vars (take n labels)) l ∙ g .walk'

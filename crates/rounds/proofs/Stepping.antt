@@ -41,7 +41,7 @@ module _ (v : ℕ) (s : List ℕ) (at : ℕ) (h : BlockHere v s at) where
       go (suc f) q = (f, q)
 
   -- a byte stands there
-  block-there : at < length s
+  pub block-there : at < length s
   block-there = go (stmtTag (getD s at 0)) (block-is .1)
     where
       go : (t : StmtTag) → blockBody t (h .blocks) (h .block) v s (λ m. blockFrom (block-is .0) (h .blocks) (h .block) v s m) at ≡ got (h .what) (h .next) → at < length s

@@ -1,16 +1,22 @@
 -- The evaluators' answers, as the definitions have them. Assumes nothing: these are definitions.
-use Prim.Native.Nat.{ℕ}
+use Prim.Native.Nat.{ℕ, _≤_}
+use mathlib.Core.Path.{_≡_}
+use lib.ListN.{length}
 use mathlib.Core.Bool.{Bool, cond}
 use mathlib.Core.List.{List}
 use Rattle.paper.specs.Values.{Val, Out, value, fault, also, flaw}
 use Rattle.paper.specs.Rule.{Expr, Cond, Case}
-use Rattle.paper.specs.Grammar.{Got, got, refused, then, two}
+use Rattle.paper.specs.Grammar.{Got, got, refused, then, two, longest}
 use Rattle.paper.specs.Meaning.{eval, holds}
 use Rattle.paper.specs.declared.Kind.the-variants.{OutOfRange}
 use Rattle.paper.specs.declared.Outcome.{Outcome}
 use Rattle.rounds.specs.declared.Evaluated.{Evaluated}
 use Rattle.rounds.specs.declared.Held.{Held}
 use Rattle.rounds.specs.declared.Both.{Both}
+
+-- the bytes of a rule lie in an array of the longest rule's length, and a variable's number is below 16
+abbrev pub Sized : ℕ → List ℕ → Type 0
+Sized v s = (v ≤ 16) × (length s ≡ longest)
 
 -- the grammar accepts what stands there
 unfoldable pub Stands : {A : Type 0} → Got A → Type 0

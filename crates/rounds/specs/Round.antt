@@ -4,16 +4,22 @@ use mathlib.Core.Path.{_≡_}
 use mathlib.Core.Bool.{cond}
 use mathlib.Core.List.{List}
 use lib.Dec.{eqb}
-use lib.ListN.{take}
+use lib.ListN.{length, take}
 use Rattle.paper.specs.Values.{Val}
 use Rattle.paper.specs.Rule.{size}
+use Rattle.paper.specs.Grammar.{longest}
 use Rattle.paper.specs.Columns.{flowOf, inputsOf, outputsOf}
 use Rattle.paper.specs.Plan.{maskOf, placeOf, carried}
 use Rattle.paper.specs.Direct.{unfinished, Round, jumped, finished}
 use Rattle.columns.specs.OnPlan.{planWalk}
 use Rattle.plans.specs.Accepted.{ruleIn}
+use Rattle.rounds.specs.Run.{Begins}
 use Rattle.rounds.specs.declared.Entry.{Entry}
 use Rattle.rounds.specs.declared.Ended.{Ended}
+
+-- the bytes of a rule lie at the start of an array that holds the longest
+abbrev pub Lies : List ℕ → List ℕ → Type 0
+Lies s rule = Begins s rule × (length rule ≡ longest)
 
 -- what the entry of block b says
 pub record Entered (plan : List ℕ) (b : ℕ) (e : Entry) : Type 0 where

@@ -1,10 +1,10 @@
 -- What stands where a block runs, and the answers of its statements and its ending. Assumes nothing: these are definitions.
-use Prim.Native.Nat.{ℕ, _≤_, _/_, _%_, _^_}
+use Prim.Native.Nat.{ℕ, _≤_, _<_, _/_, _%_, _^_}
 use mathlib.Core.Path.{_≡_}
 use mathlib.Core.Bool.{Bool}
 use mathlib.Core.List.{List}
 use lib.Dec.{eqb}
-use lib.ListN.{take, drop}
+use lib.ListN.{length, getD, take, drop}
 use Rattle.paper.specs.Values.{Val, Out, value, fault}
 use Rattle.paper.specs.Rule.{End, Block}
 use Rattle.paper.specs.Grammar.{got, endAt, blockFrom, levels}
@@ -13,6 +13,13 @@ use Rattle.columns.specs.OnPlan.{kept}
 use Rattle.rounds.specs.declared.Left.{Left}
 use Rattle.rounds.specs.declared.Ran.{Ran}
 use Rattle.rounds.specs.declared.Went.{Went}
+
+-- ---- where a rule lies
+
+-- s' begins with s
+pub record Begins (s s' : List ℕ) : Type 0 where
+  pub longer : length s ≤ length s'
+  pub same : (k : ℕ) → k < length s → getD s' k 0 ≡ getD s k 0
 
 -- ---- endings
 

@@ -13,14 +13,32 @@ ghost use Rattle.paper.specs.Meaning.{applied};
 ghost use Rattle.paper.specs.Direct.{exit};
 ghost use Rattle.values.specs.Tags.{operatorOf, jointOf};
 ghost use Rattle.rounds.specs.Skip.{tokenOf, past};
-ghost use Rattle.rounds.specs.Answer.{Stands, placed, valueAt, answer, holding, pairs, answers, picked, caseFrom};
+ghost use Rattle.rounds.specs.Answer.{Sized, Stands, placed, valueAt, answer, holding, pairs, answers, picked, caseFrom};
 ghost use Rattle.columns.specs.OnPlan.{kept};
 ghost use Rattle.rounds.specs.Run.{EndHere, leftOf, BlockHere, Stepped, bitOf, wentOf, Passed};
 ghost use Rattle.paper.specs.Rule.{size};
 ghost use Rattle.paper.specs.Plan.{carried};
 ghost use Rattle.plans.specs.Accepted.{ruleIn, Accepted};
-ghost use Rattle.rounds.specs.Round.{Entered, Walked};
+ghost use Rattle.rounds.specs.Round.{Lies, Entered, Walked};
 ghost use Rattle.rounds.specs.declared.Evaluated.{Evaluated};
+
+// The longest rule.
+const LONGEST: usize = 4064;
+
+// The bytes of a rule, with any bytes after them.
+pub type Rule = [u8; LONGEST];
+
+// How deep expressions and conditions go together, and endings.
+const DEPTH: u8 = 8;
+
+const LEVELS: u8 = 4;
+
+// The status of a row that stopped, and of one whose quota was used up.
+const STOPPED: u8 = 1;
+
+const QUOTA_USED: u8 = 4;
+
+// ---- passing over
 
 // How many bytes a token has, its tag among them.
 fn bytes_of(tag: u8) -> usize
@@ -46,13 +64,14 @@ fn items_of(tag: u8) -> usize
 }
 
 // The place after what stands at `at`: passed over token by token, not read as a tree.
-fn skip(s: &[u8], at: usize) -> usize
+fn skip(s: &Rule, at: usize) -> usize
+    requires { ⌜ length (now s) ≡ 4064 ⌝ }
     ensures { λ r. ⌜ r ≡ past 1 (now (s .entry)) at ⌝ }
 {
     let mut due: usize = 1;
     let mut i = at;
     while 0 < due {
-        if s.len() <= i {
+        if LONGEST <= i {
             return i;
         }
         let tag = s[i];
@@ -62,6 +81,8 @@ fn skip(s: &[u8], at: usize) -> usize
     }
     i
 }
+
+// ---- answers
 
 // A value and the place after the expression, or a fault.
 pub enum Evaluated {
@@ -83,8 +104,8 @@ pub enum Both {
 
 // ---- the leaves
 
-fn eval_const(s: &[u8], at: usize) -> Evaluated
-    requires { ⌜ at + 4 ≤ length (now s) ⌝ }
+fn eval_const(s: &Rule, at: usize) -> Evaluated
+    requires { ⌜ (length (now s) ≡ 4064) × (at + 4 ≤ length (now s)) ⌝ }
     ensures { λ r. ⌜ r ≡ Evaluated.Value (constantIn (now (s .entry)) at) (at + 4) ⌝ }
 {
     let x = values::constant(s, at);
@@ -92,8 +113,8 @@ fn eval_const(s: &[u8], at: usize) -> Evaluated
     Evaluated::Value(x, end)
 }
 
-fn eval_var(s: &[u8], at: usize, vars: &[i32; 16]) -> Evaluated
-    requires { ⌜ (at < length (now s)) × (getD (now s) at 0 < 16) ⌝ }
+fn eval_var(s: &Rule, at: usize, vars: &[i32; 16]) -> Evaluated
+    requires { ⌜ (at < 4064) × (getD (now s) at 0 < 16) ⌝ }
     ensures { λ r. ⌜ r ≡ Evaluated.Value (getD (now (vars .entry)) (getD (now (s .entry)) at 0) (pos 0)) (at + 1) ⌝ }
 {
     let k = s[at] as usize;
@@ -129,8 +150,8 @@ fn operate_at(tag: u8, x: i32, y: i32, n: usize) -> Evaluated
 
 // ---- the evaluators
 
-pub fn eval_expr(s: &[u8], at: usize, v: u8, left: u8, vars: &[i32; 16]) -> Evaluated
-    requires { ⌜ (v ≤ 16) × Stands (exprAt left v (now s) at) ⌝ }
+pub fn eval_expr(s: &Rule, at: usize, v: u8, left: u8, vars: &[i32; 16]) -> Evaluated
+    requires { ⌜ Sized v (now s) × Stands (exprAt left v (now s) at) ⌝ }
     ensures { λ r. ⌜ r ≡ answer (exprAt left v (now (s .entry)) at) (now (vars .entry)) ⌝ }
 {
     let tag = s[at];
@@ -152,14 +173,28 @@ pub fn eval_expr(s: &[u8], at: usize, v: u8, left: u8, vars: &[i32; 16]) -> Eval
     }
 }
 
+// As `eval_expr`. Most operands are a constant or a variable, and these are worked out in place, with no call.
+fn eval_operand(s: &Rule, at: usize, v: u8, left: u8, vars: &[i32; 16]) -> Evaluated
+    requires { ⌜ Sized v (now s) × Stands (exprAt left v (now s) at) ⌝ }
+    ensures { λ r. ⌜ r ≡ answer (exprAt left v (now (s .entry)) at) (now (vars .entry)) ⌝ }
+{
+    let tag = s[at];
+    let next = at + 1;
+    match tag {
+        0x01 => eval_const(s, next),
+        0x02 => eval_var(s, next, vars),
+        _ => eval_expr(s, at, v, left, vars),
+    }
+}
+
 // The values of two expressions, one after the other.
-fn eval_two(s: &[u8], at: usize, v: u8, left: u8, vars: &[i32; 16]) -> Both
-    requires { ⌜ (v ≤ 16) × Stands (pairs (exprAt left v (now s)) at) ⌝ }
+fn eval_two(s: &Rule, at: usize, v: u8, left: u8, vars: &[i32; 16]) -> Both
+    requires { ⌜ Sized v (now s) × Stands (pairs (exprAt left v (now s)) at) ⌝ }
     ensures { λ r. ⌜ r ≡ answers (pairs (exprAt left v (now (s .entry))) at) (now (vars .entry)) ⌝ }
 {
-    match eval_expr(s, at, v, left, vars) {
+    match eval_operand(s, at, v, left, vars) {
         Evaluated::Fault(k) => Both::Fault(k),
-        Evaluated::Value(x, n) => match eval_expr(s, n, v, left, vars) {
+        Evaluated::Value(x, n) => match eval_operand(s, n, v, left, vars) {
             Evaluated::Fault(k) => Both::Fault(k),
             Evaluated::Value(y, m) => Both::Values(x, y, m),
         },
@@ -167,8 +202,8 @@ fn eval_two(s: &[u8], at: usize, v: u8, left: u8, vars: &[i32; 16]) -> Both
 }
 
 // A condition and two expressions: the value of the first if it holds, else that of the second.
-fn eval_case(s: &[u8], at: usize, v: u8, left: u8, vars: &[i32; 16]) -> Evaluated
-    requires { ⌜ (v ≤ 16) × Stands (caseFrom (exprAt left v (now s)) (condAt left v (now s)) at) ⌝ }
+fn eval_case(s: &Rule, at: usize, v: u8, left: u8, vars: &[i32; 16]) -> Evaluated
+    requires { ⌜ Sized v (now s) × Stands (caseFrom (exprAt left v (now s)) (condAt left v (now s)) at) ⌝ }
     ensures { λ r. ⌜ r ≡ answer (caseFrom (exprAt left v (now (s .entry))) (condAt left v (now (s .entry))) at) (now (vars .entry)) ⌝ }
 {
     match eval_cond(s, at, v, left, vars) {
@@ -178,8 +213,8 @@ fn eval_case(s: &[u8], at: usize, v: u8, left: u8, vars: &[i32; 16]) -> Evaluate
 }
 
 // One of two expressions that stand one after the other; the other is passed over.
-fn eval_arm(s: &[u8], at: usize, v: u8, left: u8, vars: &[i32; 16], first: bool) -> Evaluated
-    requires { ⌜ (v ≤ 16) × Stands (pairs (exprAt left v (now s)) at) ⌝ }
+fn eval_arm(s: &Rule, at: usize, v: u8, left: u8, vars: &[i32; 16], first: bool) -> Evaluated
+    requires { ⌜ Sized v (now s) × Stands (pairs (exprAt left v (now s)) at) ⌝ }
     ensures { λ r. ⌜ r ≡ picked first (pairs (exprAt left v (now (s .entry))) at) (now (vars .entry)) ⌝ }
 {
     if first {
@@ -196,8 +231,8 @@ fn eval_arm(s: &[u8], at: usize, v: u8, left: u8, vars: &[i32; 16], first: bool)
     }
 }
 
-pub fn eval_cond(s: &[u8], at: usize, v: u8, left: u8, vars: &[i32; 16]) -> Held
-    requires { ⌜ (v ≤ 16) × Stands (condAt left v (now s) at) ⌝ }
+pub fn eval_cond(s: &Rule, at: usize, v: u8, left: u8, vars: &[i32; 16]) -> Held
+    requires { ⌜ Sized v (now s) × Stands (condAt left v (now s) at) ⌝ }
     ensures { λ r. ⌜ r ≡ holding (condAt left v (now (s .entry)) at) (now (vars .entry)) ⌝ }
 {
     let tag = s[at];
@@ -221,8 +256,8 @@ pub fn eval_cond(s: &[u8], at: usize, v: u8, left: u8, vars: &[i32; 16]) -> Held
 }
 
 // Two conditions: the right one is looked at only if the left one does not decide.
-fn eval_join(s: &[u8], at: usize, v: u8, left: u8, vars: &[i32; 16], tag: u8) -> Held
-    requires { ⌜ (v ≤ 16) × Stands (two (Join (jointOf tag)) (condAt left v (now s)) at) ⌝ }
+fn eval_join(s: &Rule, at: usize, v: u8, left: u8, vars: &[i32; 16], tag: u8) -> Held
+    requires { ⌜ Sized v (now s) × Stands (two (Join (jointOf tag)) (condAt left v (now s)) at) ⌝ }
     requires { ⌜ (19 ≤ tag) × (tag ≤ 20) ⌝ }
     ensures { λ r. ⌜ r ≡ holding (two (Join (jointOf tag)) (condAt left v (now (s .entry))) at) (now (vars .entry)) ⌝ }
 {
@@ -250,8 +285,8 @@ pub enum Left {
     Fault(Flaw),
 }
 
-pub fn run_end(s: &[u8], at: usize, v: u8, left: u8, vars: &[i32; 16]) -> Left
-    requires { ⌜ (v ≤ 16) × EndHere left v (now s) at ⌝ }
+pub fn run_end(s: &Rule, at: usize, v: u8, left: u8, vars: &[i32; 16]) -> Left
+    requires { ⌜ Sized v (now s) × EndHere left v (now s) at ⌝ }
     ensures { λ r. ⌜ ((h : EndHere left v (now (s .entry)) at) → r ≡ leftOf (exit (h .ending) (now (vars .entry)))) ⌝ }
 {
     let tag = s[at];
@@ -268,7 +303,7 @@ pub fn run_end(s: &[u8], at: usize, v: u8, left: u8, vars: &[i32; 16]) -> Left
         }
         0x32 => Left::Stop,
         // 33: nothing else can stand here
-        _ => match eval_cond(s, next, v, 8, vars) {
+        _ => match eval_cond(s, next, v, DEPTH, vars) {
             Held::Fault(k) => Left::Fault(k),
             Held::Holds(h, n) => {
                 if h {
@@ -292,7 +327,7 @@ pub enum Ran {
 
 // The statements of the block at `at`, one after the other.
 pub fn run_body(
-    s: &[u8],
+    s: &Rule,
     at: usize,
     v: u8,
     quota: usize,
@@ -300,7 +335,7 @@ pub fn run_body(
     labels: &mut [i32],
     count: usize,
 ) -> Ran
-    requires { ⌜ (v ≤ 16) × BlockHere v (now s) at ⌝ }
+    requires { ⌜ Sized v (now s) × BlockHere v (now s) at ⌝ }
     requires { ⌜ (count ≤ quota) × (quota ≤ length (now labels)) ⌝ }
     ensures { λ r. ⌜ ((h : BlockHere v (now (s .entry)) at) → Stepped v (now (s .entry)) at h quota count (now (vars .entry)) (now (labels .entry)) r (now (vars .exit)) (now (labels .exit))) ⌝ }
 {
@@ -312,7 +347,7 @@ pub fn run_body(
         if tag == 0x20 {
             let x = s[next] as usize;
             let place = i + 2;
-            match eval_expr(s, place, v, 8, vars) {
+            match eval_expr(s, place, v, DEPTH, vars) {
                 Evaluated::Fault(k) => {
                     return Ran::Ended(values::kind_number(k), n);
                 }
@@ -322,13 +357,13 @@ pub fn run_body(
                 }
             }
         } else if tag == 0x21 {
-            match eval_expr(s, next, v, 8, vars) {
+            match eval_expr(s, next, v, DEPTH, vars) {
                 Evaluated::Fault(k) => {
                     return Ran::Ended(values::kind_number(k), n);
                 }
                 Evaluated::Value(z, end) => {
                     if quota <= n {
-                        return Ran::Ended(4, n);
+                        return Ran::Ended(QUOTA_USED, n);
                     }
                     labels[n] = z;
                     n += 1;
@@ -378,7 +413,7 @@ fn led_to(way: Left, n: usize) -> Went
     match way {
         Left::Goto(t) => Went::Goto(t, n),
         Left::Jump(t) => Went::Jump(t, n),
-        Left::Stop => Went::Ended(1, n),
+        Left::Stop => Went::Ended(STOPPED, n),
         Left::Fault(k) => {
             let status = values::kind_number(k);
             Went::Ended(status, n)
@@ -388,7 +423,7 @@ fn led_to(way: Left, n: usize) -> Went
 
 // The block at `at`: entered with its input columns alone, run, and left with its output columns alone.
 pub fn run_block(
-    s: &[u8],
+    s: &Rule,
     at: usize,
     v: u8,
     inputs: u16,
@@ -398,7 +433,7 @@ pub fn run_block(
     labels: &mut [i32],
     count: usize,
 ) -> Went
-    requires { ⌜ (v ≤ 16) × BlockHere v (now s) at ⌝ }
+    requires { ⌜ Sized v (now s) × BlockHere v (now s) at ⌝ }
     requires { ⌜ (count ≤ quota) × (quota ≤ length (now labels)) ⌝ }
     ensures { λ r. ⌜ ((h : BlockHere v (now (s .entry)) at) → Passed v (now (s .entry)) at h inputs outputs quota count (now (vars .entry)) (now (labels .entry)) r (now (vars .exit)) (now (labels .exit))) ⌝ }
 {
@@ -406,7 +441,7 @@ pub fn run_block(
     match run_body(s, at, v, quota, vars, labels, count) {
         Ran::Ended(status, n) => Went::Ended(status, n),
         Ran::Ready(place, n) => {
-            let way = run_end(s, place, v, 4, vars);
+            let way = run_end(s, place, v, LEVELS, vars);
             keep(vars, v, outputs);
             led_to(way, n)
         }
@@ -449,14 +484,14 @@ pub struct Ended {
 // One round of a row, from a block on along gotos, by the plan's entries. It enters at most as many blocks as there are.
 pub fn round(
     plan: &[u8],
-    rule: &[u8],
+    rule: &Rule,
     quota: usize,
     block: u8,
     vars: &mut [i32; 16],
     labels: &mut [i32],
     count: usize,
 ) -> Ended
-    requires { ⌜ Accepted (now plan) × ((now rule ≡ carried (now plan)) × (block < size (ruleIn (now plan)))) ⌝ }
+    requires { ⌜ Accepted (now plan) × (Lies (carried (now plan)) (now rule) × (block < size (ruleIn (now plan)))) ⌝ }
     requires { ⌜ (count ≤ quota) × (quota ≤ length (now labels)) ⌝ }
     ensures { λ r. ⌜ Walked (now (plan .entry)) quota block count (now (vars .entry)) (now (labels .entry)) r (now (vars .exit)) (now (labels .exit)) ⌝ }
 {

@@ -7,7 +7,7 @@ use Rattle.rounds.proofs.at_place.Tie as tie
 
 returns : tie.Need-returns
 unfolding placed
-returns c = rw (c .before .o .given .1, bound (c .known-told .given .0 .1))
+returns c = rw (c .before .o .given .1, bound (c .before .o .given .0 .0) (c .known-told .given .0 .1))
 
 returns-2 : tie.Need-returns-2
 unfolding placed

@@ -17,44 +17,44 @@ abbrev μ-loop : tie.MeasureT-loop
 μ-loop plan rule quota block vars₀ labels₀ count v left₀ b₀ n₀ vars labels left b n = left
 
 shared-slice-read-v : tie.Need-shared-slice-read-v Inv-loop μ-loop
-shared-slice-read-v c = omega (arith, head-fits _ (c .before .before .before .pre .0 .0))
+shared-slice-read-v c = omega (arith, head-fits _ (c .before .before .pre .0 .0))
 
 shared-slice-read-left : tie.Need-shared-slice-read-left Inv-loop μ-loop
-shared-slice-read-left c = omega (arith, head-fits _ (c .before .before .before .before .pre .0 .0))
+shared-slice-read-left c = omega (arith, head-fits _ (c .before .before .before .pre .0 .0))
 
 loop-holds : tie.Need-loop-holds Inv-loop μ-loop
-loop-holds c = let p = c .before .before .before .before .pre in (refl, started (p .0 .0) (p .0 .1 .1) (p .1 .0))
+loop-holds c = let p = c .before .before .before .pre in (refl, started (p .0 .0) (p .0 .1 .1) (p .1 .0))
 
 entry-of-requires : tie.Need-entry-of-requires Inv-loop μ-loop
-entry-of-requires c κs = (c .before .before .before .before .before .before .pre .0 .0, c .before .loop .inv .1 .below)
+entry-of-requires c κs = (c .before .before .before .before .before .pre .0 .0, c .before .loop .inv .1 .below)
 
 run-block-requires : tie.Need-run-block-requires Inv-loop μ-loop
 run-block-requires c κs =
-    let s = c .before .before .before .before .before .before .before .before .before in
+    let s = c .before .before .before .before .before .before .before .before in
     let l = c .before .before .before .before .loop in
     let a = s .pre .0 .0 in (
-      (omega (arith, at-variables _ a, carried-in _ a .variables-to), here _ a _ (l .inv .1 .below) _ _ _ refl (s .pre .0 .1 .0) (c .before .before .entry-of .ensures .place')),
+      ((omega (arith, at-variables _ a, carried-in _ a .variables-to), s .pre .0 .1 .0 .1), here _ a _ (l .inv .1 .below) _ _ _ refl (s .pre .0 .1 .0 .0) (c .before .before .entry-of .ensures .place')),
       (l .inv .1 .few, omega (arith, l .inv .0)),
     )
 
 returns : tie.Need-returns Inv-loop μ-loop
 returns c =
-    let s = c .before .before .before .before .before .before .before .before .before .before .before .before .before .before in
+    let s = c .before .before .before .before .before .before .before .before .before .before .before .before .before in
     let l = c .before .before .before .before .before .before .before .before .before .loop in
-    walked-end (s .pre .0 .0) (l .inv .1) (omega arith) refl (s .pre .0 .1 .0) (c .before .before .before .before .before .before .before .entry-of .ensures) (c .before .before .before .before .run-block .ensures) _ _ (c .before .status .given .1)
+    walked-end (s .pre .0 .0) (l .inv .1) (omega arith) refl (s .pre .0 .1 .0 .0) (c .before .before .before .before .before .before .before .entry-of .ensures) (c .before .before .before .before .run-block .ensures) _ _ (c .before .status .given .1)
 
 returns-2 : tie.Need-returns-2 Inv-loop μ-loop
 returns-2 c =
-    let s = c .before .before .before .before .before .before .before .before .before .before .before .before .before .before in
+    let s = c .before .before .before .before .before .before .before .before .before .before .before .before .before in
     let l = c .before .before .before .before .before .before .before .before .before .loop in
-    walked-jump (s .pre .0 .0) (l .inv .1) (omega arith) refl (s .pre .0 .1 .0) (c .before .before .before .before .before .before .before .entry-of .ensures) (c .before .before .before .before .run-block .ensures) _ _ (c .before .t .given .1)
+    walked-jump (s .pre .0 .0) (l .inv .1) (omega arith) refl (s .pre .0 .1 .0 .0) (c .before .before .before .before .before .before .before .entry-of .ensures) (c .before .before .before .before .run-block .ensures) _ _ (c .before .t .given .1)
 
 loop-again : tie.Need-loop-again Inv-loop μ-loop
 loop-again c =
-    let s = c .before .before .before .before .before .before .before .before .before .before .before .before .before .before in
+    let s = c .before .before .before .before .before .before .before .before .before .before .before .before .before in
     let l = c .before .before .before .before .before .before .before .before .before .loop in (
       omega arith,
-      walked-on (s .pre .0 .0) (l .inv .1) (omega arith) refl (s .pre .0 .1 .0) (c .before .before .before .before .before .before .before .entry-of .ensures) (c .before .before .before .before .run-block .ensures) (carried-proper _ (s .pre .0 .0)) _ _ (c .before .t2 .given .1),
+      walked-on (s .pre .0 .0) (l .inv .1) (omega arith) refl (s .pre .0 .1 .0 .0) (c .before .before .before .before .before .before .before .entry-of .ensures) (c .before .before .before .before .run-block .ensures) (carried-proper _ (s .pre .0 .0)) _ _ (c .before .t2 .given .1),
     )
 
 returns-3 : tie.Need-returns-3 Inv-loop μ-loop

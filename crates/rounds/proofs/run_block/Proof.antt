@@ -8,7 +8,7 @@ run-end-requires : tie.Need-run-end-requires
 run-end-requires c κs =
     let place = c .before .before in
     let body = place .before .before .before in
-    let start = body .before .before .before .before .before .before in
+    let start = body .before .before .before .before .before in
     (start .pre .0 .0, block-ending _ _ _ (start .pre .0 .1) _ _ _ _ _ _ _ _ (rw (place .place .given .1) at (body .run-body .ensures (start .pre .0 .1))))
 
 returns : tie.Need-returns

@@ -19,29 +19,32 @@ abbrev μ-loop : tie.MeasureT-loop
 μ-loop s at v quota vars₀ labels₀ count i₀ n₀ vars labels i n = length s - i
 
 -- what is left to run, at the loop's head
-abbrev rest : (l : tie.At-loop Inv-loop μ-loop) → let a = l .before .before .args in Rest (a .v) (a .s .now) (a .at) (l .before .before .pre .0 .1) (a .quota) (a .count) (a .vars .now) (a .labels .now) (l .loop .vars) (l .loop .labels) (l .loop .i) (l .loop .n)
-rest l = l .loop .inv (l .before .before .pre .0 .1)
+abbrev rest : (l : tie.At-loop Inv-loop μ-loop) → let a = l .before .args in Rest (a .v) (a .s .now) (a .at) (l .before .pre .0 .1) (a .quota) (a .count) (a .vars .now) (a .labels .now) (l .loop .vars) (l .loop .labels) (l .loop .i) (l .loop .n)
+rest l = l .loop .inv (l .before .pre .0 .1)
 
 loop-holds : tie.Need-loop-holds Inv-loop μ-loop
-loop-holds c = λ h. record { here = h; blocks = refl; block = refl; next = refl; ending = refl; left = refl; within = c .before .pre .1 .0; room = c .before .pre .1 .1; size = refl; stays = refl }
+loop-holds c = λ h. record { here = h; blocks = refl; block = refl; next = refl; ending = refl; left = refl; within = c .pre .1 .0; room = c .pre .1 .1; size = refl; stays = refl }
 
-shared-slice-read-tag : tie.Need-shared-slice-read-tag Inv-loop μ-loop
-shared-slice-read-tag c = laws.rest-there (rest (c .before))
+tag-there : (l : tie.At-loop Inv-loop μ-loop) → l .loop .i < 4064
+tag-there l = omega (arith, laws.rest-there (rest l), l .before .pre .0 .0 .1)
+
+element-copy-out-tag : tie.Need-element-copy-out-tag Inv-loop μ-loop
+element-copy-out-tag c = tag-there c
 
 add-next : tie.Need-add-next Inv-loop μ-loop
-add-next c = omega (arith, laws.rest-there (rest (c .before)))
+add-next c = omega (arith, tag-there (c .before))
 
-shared-slice-read-x : tie.Need-shared-slice-read-x Inv-loop μ-loop
-shared-slice-read-x c = laws.set-there (rest (c .before .before .before)) (c .before .if1 .taken) .0
+element-copy-out-x : tie.Need-element-copy-out-x Inv-loop μ-loop
+element-copy-out-x c = omega (arith, laws.set-there (rest (c .before .before)) (c .if1 .taken) .0, c .before .before .before .pre .0 .0 .1)
 
 cast-x : tie.Need-cast-x Inv-loop μ-loop
-cast-x c = omega (arith, c .shared-slice-known3 .given (c .before .before .before .loop .i + 1))
+cast-x c = omega (arith, laws.set-there (rest (c .before .before .before)) (c .before .if1 .taken) .1, c .before .before .before .before .pre .0 .0 .0)
 
 add-place : tie.Need-add-place Inv-loop μ-loop
-add-place c = omega (arith, laws.set-there (rest (c .before .before .before)) (c .before .if1 .taken) .0)
+add-place c = omega (arith, laws.set-there (rest (c .before .before .before)) (c .before .if1 .taken) .0, c .before .before .before .before .pre .0 .0 .1)
 
 eval-expr-requires : tie.Need-eval-expr-requires Inv-loop μ-loop
-eval-expr-requires c κs = (c .before .before .before .before .before .before .pre .0 .0, laws.set-stands (rest (c .before .before .before .before)) (c .before .before .if1 .taken))
+eval-expr-requires c κs = (c .before .before .before .before .before .pre .0 .0, laws.set-stands (rest (c .before .before .before .before)) (c .before .before .if1 .taken))
 
 returns : tie.Need-returns Inv-loop μ-loop
 returns c = λ h.
@@ -49,15 +52,22 @@ returns c = λ h.
     let first = k .before .before in
     laws.set-fault (c .before .before .before .before .before .before .before .before .before .loop .inv h) _ _ (first .before .before .before .if1 .taken) (told (first .eval-expr .ensures) (k .k .given .1)) (c .kind-number .ensures)
 
--- after a set
-set-below : (c : tie.After-known-told2 Inv-loop μ-loop) → getD (c .before .before .before .before .before .before .before .before .before .before .args .s .now) (c .before .before .before .before .before .before .before .before .loop .i + 1) 0 < 16
-set-below c = omega (arith, laws.set-there (rest (c .before .before .before .before .before .before .before .before)) (c .before .before .before .before .before .before .if1 .taken) .1, c .before .before .before .before .before .before .before .before .before .before .pre .0 .0)
+-- the loop's head, from where a set or an emit has its value
+abbrev set-head : tie.After-known-told2 Inv-loop μ-loop → tie.At-loop Inv-loop μ-loop
+set-head c = c .before .before .before .before .before .before .before .before
 
-set-on : (c : tie.After-known-told2 Inv-loop μ-loop) (h : BlockHere (c .before .before .before .before .before .before .before .before .before .before .args .v) (c .before .before .before .before .before .before .before .before .before .before .args .s .now) (c .before .before .before .before .before .before .before .before .before .before .args .at)) → let a = c .before .before .before .before .before .before .before .before .before .before .args in let l = c .before .before .before .before .before .before .before .before .loop in (l .i < c .before .z .given .0 .1 .0) × Rest (a .v) (a .s .now) (a .at) h (a .quota) (a .count) (a .vars .now) (a .labels .now) (set (l .vars) (getD (a .s .now) (l .i + 1) 0) (c .before .z .given .0 .0)) (l .labels) (c .before .z .given .0 .1 .0) (l .n)
+abbrev emit-head : tie.Else3 Inv-loop μ-loop → tie.At-loop Inv-loop μ-loop
+emit-head c = c .before .before .before .before .before .before .before .before .before
+
+-- after a set
+set-below : (c : tie.After-known-told2 Inv-loop μ-loop) → getD (set-head c .before .args .s .now) (set-head c .loop .i + 1) 0 < 16
+set-below c = omega (arith, laws.set-there (rest (set-head c)) (c .before .before .before .before .before .before .if1 .taken) .1, set-head c .before .pre .0 .0)
+
+set-on : (c : tie.After-known-told2 Inv-loop μ-loop) (h : BlockHere (set-head c .before .args .v) (set-head c .before .args .s .now) (set-head c .before .args .at)) → let a = set-head c .before .args in let l = set-head c .loop in (l .i < c .before .z .given .0 .1 .0) × Rest (a .v) (a .s .now) (a .at) h (a .quota) (a .count) (a .vars .now) (a .labels .now) (set (l .vars) (getD (a .s .now) (l .i + 1) 0) (c .before .z .given .0 .0)) (l .labels) (c .before .z .given .0 .1 .0) (l .n)
 set-on c h =
     let z = c .before in
     let first = z .before .before in
-    laws.set-on (c .before .before .before .before .before .before .before .before .loop .inv h) _ _ (first .before .before .before .if1 .taken) (told (first .eval-expr .ensures) (z .z .given .1))
+    laws.set-on (set-head c .loop .inv h) _ _ (first .before .before .before .if1 .taken) (told (first .eval-expr .ensures) (z .z .given .1))
 
 mul-z : tie.Need-mul-z Inv-loop μ-loop
 mul-z c = omega (arith, set-below c)
@@ -66,13 +76,13 @@ element-set-from-z : tie.Need-element-set-from-z Inv-loop μ-loop
 element-set-from-z c = set-below c
 
 loop-less : tie.Need-loop-less Inv-loop μ-loop
-loop-less c = omega (arith, set-on c (c .before .before .before .before .before .before .before .before .before .before .pre .0 .1) .0, laws.rest-there (rest (c .before .before .before .before .before .before .before .before)))
+loop-less c = omega (arith, set-on c (set-head c .before .pre .0 .1) .0, laws.rest-there (rest (set-head c)))
 
 loop-again : tie.Need-loop-again Inv-loop μ-loop
-loop-again c = λ h. rw (bound (c .known-told2 .given .0 .1)) (set-on c h .1)
+loop-again c = λ h. rw (bound (c .before .z .given .0 .0) (c .known-told2 .given .0 .1)) (set-on c h .1)
 
 eval-expr-requires-2 : tie.Need-eval-expr-requires-2 Inv-loop μ-loop
-eval-expr-requires-2 c κs = (c .before .before .before .before .before .before .pre .0 .0, laws.emit-stands (rest (c .before .before .before .before)) (c .before .if2 .taken))
+eval-expr-requires-2 c κs = (c .before .before .before .before .before .pre .0 .0, laws.emit-stands (rest (c .before .before .before .before)) (c .before .if2 .taken))
 
 returns-2 : tie.Need-returns-2 Inv-loop μ-loop
 returns-2 c = λ h.
@@ -87,26 +97,26 @@ returns-3 c = λ h.
     laws.emit-full (c .before .before .before .before .before .before .before .before .before .loop .inv h) _ _ (first .before .before .if2 .taken) (told (first .eval-expr2 .ensures) (z .z2 .given .1)) (c .if3 .taken)
 
 -- after an emit
-emit-on : (c : tie.Else3 Inv-loop μ-loop) (h : BlockHere (c .before .before .before .before .before .before .before .before .before .before .before .args .v) (c .before .before .before .before .before .before .before .before .before .before .before .args .s .now) (c .before .before .before .before .before .before .before .before .before .before .before .args .at)) → let a = c .before .before .before .before .before .before .before .before .before .before .before .args in let l = c .before .before .before .before .before .before .before .before .before .loop in let z = c .before .before .z2 .given in (l .i < z .0 .1 .0) × Rest (a .v) (a .s .now) (a .at) h (a .quota) (a .count) (a .vars .now) (a .labels .now) (l .vars) (set (l .labels) (l .n) (z .0 .0)) (z .0 .1 .0) (l .n + 1)
+emit-on : (c : tie.Else3 Inv-loop μ-loop) (h : BlockHere (emit-head c .before .args .v) (emit-head c .before .args .s .now) (emit-head c .before .args .at)) → let a = emit-head c .before .args in let l = emit-head c .loop in let z = c .before .before .z2 .given in (l .i < z .0 .1 .0) × Rest (a .v) (a .s .now) (a .at) h (a .quota) (a .count) (a .vars .now) (a .labels .now) (l .vars) (set (l .labels) (l .n) (z .0 .0)) (z .0 .1 .0) (l .n + 1)
 emit-on c h =
     let z = c .before .before in
     let first = z .before .before in
-    laws.emit-on (c .before .before .before .before .before .before .before .before .before .loop .inv h) _ _ (first .before .before .if2 .taken) (told (first .eval-expr2 .ensures) (z .z2 .given .1)) (c .if3 .left)
+    laws.emit-on (emit-head c .loop .inv h) _ _ (first .before .before .if2 .taken) (told (first .eval-expr2 .ensures) (z .z2 .given .1)) (c .if3 .left)
 
 mul-z-2 : tie.Need-mul-z-2 Inv-loop μ-loop
-mul-z-2 c = omega (arith, rest (c .before .before .before .before .before .before .before .before .before) .room, rest (c .before .before .before .before .before .before .before .before .before) .size, c .before .before .before .before .before .before .before .before .before .before .before .good .1 .1 .1 .1 .1 .0 .1)
+mul-z-2 c = omega (arith, rest (emit-head c) .room, rest (emit-head c) .size, emit-head c .before .good .1 .1 .1 .1 .1 .0 .1)
 
 slice-set-from-z : tie.Need-slice-set-from-z Inv-loop μ-loop
-slice-set-from-z c = omega (arith, rest (c .before .before .before .before .before .before .before .before .before) .room)
+slice-set-from-z c = omega (arith, rest (emit-head c) .room)
 
 add-n : tie.Need-add-n Inv-loop μ-loop
-add-n c = omega (arith, rest (c .before .before .before .before .before .before .before .before .before) .room)
+add-n c = omega (arith, rest (emit-head c) .room)
 
 loop-less-2 : tie.Need-loop-less-2 Inv-loop μ-loop
-loop-less-2 c = omega (arith, emit-on c (c .before .before .before .before .before .before .before .before .before .before .before .pre .0 .1) .0, laws.rest-there (rest (c .before .before .before .before .before .before .before .before .before)))
+loop-less-2 c = omega (arith, emit-on c (emit-head c .before .pre .0 .1) .0, laws.rest-there (rest (emit-head c)))
 
 loop-again-2 : tie.Need-loop-again-2 Inv-loop μ-loop
-loop-again-2 c = λ h. rw (bound (c .before .known-told4 .given .0 .1)) (emit-on c h .1)
+loop-again-2 c = λ h. rw (bound (c .before .before .z2 .given .0 .0) (c .before .known-told4 .given .0 .1)) (emit-on c h .1)
 
 returns-4 : tie.Need-returns-4 Inv-loop μ-loop
 returns-4 c = λ h. laws.all-run (c .before .before .before .loop .inv h) (c .before .if1 .left) (c .if2 .left)
@@ -118,9 +128,9 @@ run-body-spec =
     Inv-loop
     μ-loop
     loop-holds
-    shared-slice-read-tag
+    element-copy-out-tag
     add-next
-    shared-slice-read-x
+    element-copy-out-x
     cast-x
     add-place
     eval-expr-requires

@@ -17,11 +17,11 @@ abbrev μ-loop : tie.MeasureT-loop
 μ-loop s at due₀ i₀ due i = length s - i
 
 returns : tie.Need-returns Inv-loop μ-loop
-returns c = let l = c .before .before .loop in sym (l .inv .0 ∙ past-out _ (l .due) (l .i) (c .if1 .taken))
+returns c = let l = c .before .before in sym (l .loop .inv .0 ∙ past-out _ (l .loop .due) (l .loop .i) (omega (arith, l .before .pre)))
 
 -- what is known of the token that is passed
-token-small : (c : tie.After-items-of Inv-loop μ-loop) → Small (tokenOf (getD (c .before .before .before .before .before .before .args .s .now) (c .before .before .before .before .loop .i) 0))
-token-small c = small (getD (c .before .before .before .before .before .before .args .s .now) (c .before .before .before .before .loop .i) 0)
+token-small : (c : tie.After-items-of Inv-loop μ-loop) → Small (tokenOf (getD (c .before .before .before .before .before .args .s .now) (c .before .before .before .before .loop .i) 0))
+token-small c = small (getD (c .before .before .before .before .before .args .s .now) (c .before .before .before .before .loop .i) 0)
 
 add-due : tie.Need-add-due Inv-loop μ-loop
 add-due c = omega (arith, c .items-of .ensures, token-small c)
