@@ -1,2 +1,15 @@
 pub mod Finds
 pub mod Empty
+pub mod Buffers
+pub mod Lines
+pub mod Looks
+pub mod Carries
+pub mod Rows
+pub mod Passes
+pub mod Turns
+pub mod Starts
+pub mod Runs
+pub mod Accepted
+pub mod Promises
+pub mod Onward
+pub mod Replies

@@ -1,1 +1,4 @@
 pub mod Limits
+pub mod Layout
+pub mod Table
+pub mod Runs

@@ -1,4 +1,8 @@
 // A batch: the run over the LOOP table, and the finder.
+mod calls;
 mod finder;
+mod layout;
+mod table;
 
+pub use calls::run;
 pub use finder::find;

@@ -4,6 +4,7 @@ mod finds;
 mod input;
 mod output;
 mod parts;
+mod runs;
 
 // Serves all requests. A proved loop has to end, and nothing says that the input does: so it counts down from a number that no input uses up.
 pub fn serve() {
@@ -32,6 +33,7 @@ fn served() -> bool {
 fn answered(kind: usize) -> bool {
     match kind {
         1 | 2 | 3 => bytes::answered(kind),
+        4 => runs::answered(),
         5 => finds::answered(),
         _ => false,
     }

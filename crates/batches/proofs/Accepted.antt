@@ -1,0 +1,71 @@
+-- What an accepted plan's bytes say of its rows' layout, and that its rule is one the run can rest on. Assumes nothing.
+use mathlib.Core.Path.{_≡_, refl, sym, ap, _∙_}
+use Prim.Native.Nat.{ℕ, _+_, _≤_, min}
+use native.Mathlib.Omega.{arith}
+use mathlib.Core.List.{List}
+use lib.ListN.{length, take, getD, length-take}
+use lib.Seq.{getD-take}
+use Rattle.paper.specs.Rule.{End, Goto, Jump, Stop, If, Rule}
+use Rattle.paper.specs.Grammar.{got, longest}
+use Rattle.paper.specs.Columns.{flowOf, LC}
+use Rattle.paper.specs.Plan.{carried, planned}
+use Rattle.paper.specs.Pages.{wordAt}
+use Rattle.paper.specs.Batch.{countTo}
+use Rattle.paper.specs.Calls.{columns}
+use Rattle.paper.proofs.Counts.{count-le}
+use Rattle.paper.proofs.Masks.{bitOf, mask-count}
+use Rattle.plans.specs.Accepted.{ruleIn, Accepted}
+use Rattle.plans.proofs.Accepted.{is-plan}
+use Rattle.plans.proofs.Proper.{proper}
+use Rattle.plans.specs.Taken.{Taking}
+use Rattle.rounds.specs.Round.{Lies}
+use Rattle.plans.specs.declared.Taken.{Taken}
+use Rattle.plans.specs.declared.Taken.the-variants as taken
+use Rattle.plans.proofs.Carried.{carried-rule, carried-in, head-fits, at-variables, at-arguments, at-lc}
+use Rattle.columns.specs.Proper.{Proper}
+use Rattle.batches.specs.Layout.{width, Known}
+
+-- the rule of an accepted plan is proper
+pub is-proper : (plan : List ℕ) (r : Rule) (n : ℕ) → planned plan ≡ got r n → Proper r
+is-proper plan r n e = proper (carried plan) r n (is-plan plan r n .0 e .rule)
+
+-- the buffer that it was taken into begins with its rule
+pub lies : {plan : List ℕ} {t : Taken} {buffer : List ℕ} → Taking plan t buffer → (n : ℕ) → t ≡ taken.Rule n → length buffer ≡ longest → Lies (carried plan) buffer
+lies {plan} {t} {buffer} k n e h =
+    let s : take n buffer ≡ carried plan = k .bytes n e in
+    let l : length (carried plan) ≡ min n (length buffer) = sym (ap length s) ∙ length-take n buffer in
+    (record { longer = omega arith; same = λ i m. sym (getD-take n buffer i 0 (omega arith)) ∙ ap (λ (x : List ℕ). getD x i 0) s }, h)
+
+module _ {plan : List ℕ} (a : Accepted plan) where
+  abbrev r : Rule
+  r = ruleIn plan
+
+  pub plan-long : 6 ≤ length plan
+  plan-long = omega (arith, head-fits plan a)
+
+  pub variables-few : getD plan 1 0 ≤ 16
+  variables-few = omega (arith, at-variables plan a, carried-in plan a .variables-to)
+
+  pub arguments-few : getD plan 2 0 ≤ 16
+  arguments-few = omega (arith, at-arguments plan a, carried-in plan a .arguments-to, carried-in plan a .variables-to)
+
+  -- what the code reads of the plan is what its rows' layout depends on
+  module _ (lc place : ℕ) (el : lc ≡ wordAt plan 4) (ep : place ≡ countTo (getD plan 1 0) (bitOf lc)) where
+    place-is : place ≡ columns r
+    place-is = ep ∙ rw (at-variables plan a, el, at-lc plan a) (mask-count (r .variables) (LC (flowOf r)) (r .variables) (omega arith))
+
+    pub size-is : 2 + place ≡ width r
+    size-is = ap (λ (n : ℕ). 2 + n) place-is
+
+    pub place-few : place ≤ 16
+    place-few = omega (arith, place-is, count-le (r .variables) (LC (flowOf r)), carried-in plan a .variables-to)
+
+    pub known : (quota : ℕ) → quota ≤ 16 → Known r (record { variables = getD plan 1 0; lc = lc; size = 2 + place; quota = quota })
+    known quota h = record {
+      proper = proper (carried plan) r (a .next) (carried-rule plan a);
+      blocks = carried-in plan a .blocks-to;
+      variables = at-variables plan a;
+      mask = el ∙ at-lc plan a;
+      size' = size-is;
+      quota = h;
+    }

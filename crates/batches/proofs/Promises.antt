@@ -1,0 +1,156 @@
+-- What the contract of `run` promises of every call: one outcome alone, a refusal that changes no word, and rows that each go as if they ran alone.
+-- Assumes nothing.
+use mathlib.Core.Path.{_≡_, refl, sym, ap, _∙_}
+use mathlib.Core.Bool.{Bool, true, false}
+use Prim.Native.Nat.{ℕ, zero, suc, _+_, _-_, _*_, _≤_, _<_}
+use native.Mathlib.Omega.{arith}
+use mathlib.Core.List.{List, [], _∷_, _++_, map, append-assoc}
+use lib.IntN.{pos, natAbs}
+use lib.ListN.{length, take, drop, getD, replicate, length-map, length-take}
+use lib.Seq.{take-append-seam}
+use lib.Dec.{ltb}
+use borrow.Author.Tests.{ltb-true, ltb-false, ne-eqb}
+use Rattle.paper.specs.Values.{Val}
+use Rattle.paper.specs.Rule.{Rule}
+use Rattle.paper.specs.Grammar.{got}
+use Rattle.paper.specs.Plan.{planned}
+use Rattle.paper.specs.Direct.{State, start, after}
+use Rattle.paper.specs.Batch.{Word, goesOn, recordSize, recordOf, recordsOf, startAt, startsOf}
+use Rattle.paper.specs.Calls.{Batch, Ran, recordsIn}
+use Rattle.paper.specs.declared.Refusal.{Refusal}
+use Rattle.paper.specs.declared.Reply.{Reply}
+use Rattle.paper.specs.declared.Reply.the-variants.{Done, Refused}
+use Rattle.columns.specs.Proper.{Proper}
+use Rattle.columns.specs.Row.{Sound}
+use Rattle.columns.proofs.Rows.{Grown, after-add, after-done, after-grown, run-sound}
+use Rattle.batches.specs.Table.{All}
+use Rattle.batches.proofs.Buffers.{part-mid}
+use Rattle.batches.proofs.Looks.{record-length}
+use Rattle.batches.proofs.Rows.{all-left, all-map, map-append, records-append, records-length}
+use Rattle.batches.proofs.Starts.{starts-length, starts-sound}
+use Rattle.batches.proofs.Turns.{step}
+use Rattle.batches.proofs.Accepted.{is-proper}
+
+-- ---- every call
+
+-- no second outcome meets the contract
+pub one-outcome : (b : Batch) (out work : List Word) (r r' : Reply) (o o' w w' : List Word) → Ran b out work r o w → Ran b out work r' o' w' → (r ≡ r') × (o ≡ o') × (w ≡ w')
+one-outcome b out work r r' o o' w w' p p' =
+    let e : r ≡ r' = p .reply ∙ sym (p' .reply) in
+    (e, p .result ∙ rw e (sym (p' .result)), p .working ∙ rw e (sym (p' .working)))
+
+-- a refusal changes no word
+pub refused-keeps : (b : Batch) (out work : List Word) (f : Refusal) (o w : List Word) → Ran b out work (Refused f) o w → (o ≡ out) × (w ≡ work)
+refused-keeps b out work f o w p = (p .result, p .working)
+
+-- ---- a row in a call that is not refused
+
+-- the words of row k in the results, and the labels among them
+abbrev pub recordAt : ℕ → ℕ → List Word → List Word
+recordAt q k out = take (recordSize q) (drop (k * recordSize q) out)
+
+abbrev pub statusOf : List Word → Word
+statusOf words = getD words 0 (pos 0)
+
+abbrev pub labelsOf : List Word → List Word
+labelsOf words = take (natAbs (getD words 2 (pos 0))) (drop 3 words)
+
+-- some batch holds a row with these arguments at place k, and its call, under this budget and quota, leaves these results
+pub record Called (plan : List ℕ) (r : Rule) (args : List Val) (N q k : ℕ) (results : List Word) : Type 0 where
+  pub batch : Batch
+  pub out : List Word
+  pub work : List Word
+  pub table : List Word
+  pub most : ℕ
+  pub ran : Ran batch out work (Done most) results table
+  pub plan' : batch .plan ≡ plan
+  pub budget : batch .budget ≡ N
+  pub quota : batch .quota ≡ q
+  pub within : k < batch .rows
+  pub args' : take (r .arguments) (drop (k * r .arguments) (batch .values)) ≡ args
+
+-- ---- a row among the rows
+
+record Split (ss : List State) (k : ℕ) (s : State) : Type 0 where
+  first : List State
+  rest : List State
+  is : ss ≡ first ++ s ∷ rest
+  many : length first ≡ k
+
+split-snoc : (ss : List State) (k : ℕ) (s x : State) → Split ss k s → Split (ss ++ x ∷ []) k s
+split-snoc ss k s x c = record { first = c .first; rest = c .rest ++ x ∷ []; is = rw (c .is) (append-assoc (c .first) (s ∷ c .rest) (x ∷ [])); many = c .many }
+
+starts-split : (r : Rule) (values : List Val) (rows k : ℕ) → k < rows → Split (startsOf r values rows) k (startAt r values k)
+unfolding startsOf
+starts-split r values zero k h = absurd (omega arith)
+starts-split r values (suc n) k h = go (ltb k n) refl (starts-split r values n k)
+  where
+    go : (b : Bool) → ltb k n ≡ b → (k < n → Split (startsOf r values n) k (startAt r values k)) → Split (startsOf r values n ++ startAt r values n ∷ []) k (startAt r values k)
+    go true e c = split-snoc (startsOf r values n) k (startAt r values k) (startAt r values n) (c (ltb-true k n e))
+    go false e c =
+        let z : n ≡ k = omega (arith, ltb-false k n e) in
+        record { first = startsOf r values n; rest = []; is = ap (λ (m : ℕ). startsOf r values n ++ startAt r values m ∷ []) z; many = starts-length r values n ∙ z }
+
+module _ (r : Rule) (ok : Proper r) where
+  args-few : (values : List Val) (k : ℕ) → length (take (r .arguments) (drop (k * r .arguments) values)) ≤ r .variables
+  args-few values k = omega (arith, ok .given, length-take (r .arguments) (drop (k * r .arguments) values))
+
+  -- the record of row k is that of its own direct run, whatever stands beside it
+  alone : (values : List Val) (rows N q k : ℕ) (tail : List Word) → k < rows
+      → recordAt q k (recordsOf q (map (after r q N) (startsOf r values rows)) ++ tail) ≡ recordOf q (after r q N (startAt r values k))
+  unfolding recordsOf
+  alone values rows N q k tail h =
+      let g : State → State = after r q N in
+      let s : State = startAt r values k in
+      let c : Split (startsOf r values rows) k s = starts-split r values rows k h in
+      let before = all-left (Sound r q 0) (c .first) (s ∷ c .rest) (rw (c .is) at (starts-sound r values ok q rows)) in
+      let sound = all-map (Sound r q 0) (Sound r q (0 + N)) g (step r q ok N .sound 0) (c .first) before in
+      let e : recordsOf q (map g (startsOf r values rows)) ++ tail ≡ recordsOf q (map g (c .first)) ++ (recordOf q (g s) ++ (recordsOf q (map g (c .rest)) ++ tail)) =
+      ap (λ (l : List State). recordsOf q (map g l) ++ tail) (c .is) ∙ rw (map-append, records-append) (simp append-assoc) in
+      rw e (part-mid (recordsOf q (map g (c .first))) (recordOf q (g s)) (recordsOf q (map g (c .rest)) ++ tail) (k * recordSize q) (recordSize q)
+      (records-length r q (0 + N) (map g (c .first)) sound ∙ rw (length-map, c .many)) (record-length r q N (g s) (run-sound r q ok (take (r .arguments) (drop (k * r .arguments) values)) (args-few values k) N)))
+
+  its-own : (values args : List Val) (rows B Q N q k : ℕ) (results tail : List Word) → results ≡ recordsOf Q (map (after r Q B) (startsOf r values rows)) ++ tail
+      → B ≡ N → Q ≡ q → take (r .arguments) (drop (k * r .arguments) values) ≡ args → k < rows → recordAt q k results ≡ recordOf q (after r q N (start r args))
+  its-own values args rows B Q N q k results tail e eN eq ea h = rw (e, ← eN, ← eq, ← ea) (alone values rows B Q k tail h)
+
+-- ---- the promises
+
+module _ (plan : List ℕ) (r : Rule) (n : ℕ) (accepted : planned plan ≡ got r n) (args : List Val) (q : ℕ) where
+  ok : Proper r
+  ok = is-proper plan r n accepted
+
+  -- the record of a row is the direct run's
+  pub direct : (N k : ℕ) (results : List Word) → Called plan r args N q k results → recordAt q k results ≡ recordOf q (after r q N (start r args))
+  unfolding recordsIn
+  direct N k results c =
+      let b = c .batch in
+      let e = rw (ap planned (c .plan') ∙ accepted) at (c .ran .result) in
+      its-own r ok (b .values) args (b .rows) (b .budget) (b .quota) N q k results _ e (c .budget) (c .quota) (c .args') (c .within)
+
+  labels-are : (words : List Word) (s : State) → words ≡ recordOf q s → labelsOf words ≡ s .labels
+  labels-are words s e = rw e (take-append-seam (s .labels) (replicate (q - length (s .labels)) (pos 0)))
+
+  -- Two calls, one after N and one after M rounds, in any two batches and at any two places.
+  module _ (N M k k' : ℕ) (more : N ≤ M) (results results' : List Word) (c : Called plan r args N q k results) (c' : Called plan r args M q k' results') where
+    abbrev s : State
+    s = start r args
+
+    later : after r q M s ≡ after r q (M - N) (after r q N s)
+    later =
+        let d : N + (M - N) ≡ M = omega arith in
+        ap (λ (j : ℕ). after r q j s) (sym d) ∙ after-add r q N (M - N) s
+
+    -- once the row has ended, the two records are the same in every word
+    pub same-record : (statusOf (recordAt q k results) ≡ pos 0 → ⊥) → recordAt q k results ≡ recordAt q k' results'
+    same-record z =
+        let g : goesOn (after r q N s) ≡ false = ne-eqb (after r q N s .status) 0 (λ w. z (ap statusOf (direct N k results c) ∙ ap pos w)) in
+        let e : after r q M s ≡ after r q N s = later ∙ after-done r q (M - N) (after r q N s) g in
+        direct N k results c ∙ ap (recordOf q) (sym e) ∙ sym (direct M k' results' c')
+
+    -- before, its labels in the one are a beginning of those in the other
+    pub first-labels : Grown q (labelsOf (recordAt q k results)) (labelsOf (recordAt q k' results'))
+    first-labels =
+        let few : length args ≤ r .variables = rw (← c .args') (args-few r ok (c .batch .values) k) in
+        rw (labels-are (recordAt q k results) (after r q N s) (direct N k results c), labels-are (recordAt q k' results') (after r q M s) (direct M k' results' c'), later)
+        (after-grown r q ok N (after r q N s) (run-sound r q ok args few N) (M - N))

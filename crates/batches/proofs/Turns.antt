@@ -1,0 +1,127 @@
+-- One row's turn: read, carried on, written. Assumes nothing.
+use mathlib.Core.Path.{_≡_, refl, sym, ap, _∙_}
+use mathlib.Core.Bool.{Bool, true, false, cond}
+use Prim.Native.Nat.{ℕ, zero, suc, _+_, _-_, _*_, _≤_, _<_}
+use native.Mathlib.Omega.{arith}
+use native.Mathlib.Nat.{mul-le-mul}
+use mathlib.Core.List.{List, _∷_, _++_}
+use lib.IntN.{pos}
+use lib.ListN.{length, take, replicate}
+use borrow.Author.Tests.{eq-eqb, ne-eqb}
+use Rattle.words.specs.Words.{over}
+use Rattle.paper.specs.Values.{Val}
+use Rattle.paper.specs.Rule.{Rule}
+use Rattle.paper.specs.Columns.{flowOf, LC}
+use Rattle.paper.specs.Direct.{State, Round, jumped, finished, joined, advance, after}
+use Rattle.paper.specs.Batch.{Word, goesOn, recordSize, recordOf, countTo, lineSize, columnsOf}
+use Rattle.paper.specs.Calls.{mostBudget}
+use Rattle.paper.proofs.Masks.{bitOf}
+use Rattle.paper.proofs.Counts.{count-le}
+use Rattle.columns.specs.Proper.{Proper}
+use Rattle.columns.specs.Row.{Sound}
+use Rattle.columns.proofs.Rows.{roundOf, advance-on, advance-done, after-done, after-sound}
+use Rattle.batches.specs.Layout.{width, lineIn, Known}
+use Rattle.batches.specs.Table.{Held, Went, RowAt, Placed, Looked, Turned}
+use Rattle.batches.specs.declared.layout.Layout.{Layout}
+use Rattle.batches.specs.declared.layout.Row.{Row}
+use Rattle.batches.specs.declared.table.Carried.{Carried}
+use Rattle.batches.proofs.Looks.{line-fits, record-fits, mask-all, columns-mask}
+use Rattle.batches.proofs.Rows.{Stepwise}
+
+-- ---- N rounds are a step
+module _ (r : Rule) (q : ℕ) where
+  joined-more : (s : State) (R : Round) → s .begun ≤ joined s R .begun
+  joined-more s (jumped b env ls) = omega arith
+  joined-more s (finished st ls) = omega arith
+
+  advance-more : (s : State) → s .begun ≤ advance r q s .begun
+  advance-more s = go (goesOn s) refl
+    where
+      go : (b : Bool) → goesOn s ≡ b → s .begun ≤ advance r q s .begun
+      go true e = rw (advance-on r q s e) (joined-more s (roundOf r q s))
+      go false e = rw (advance-done r q s e) (omega arith)
+
+  after-more : (n : ℕ) (s : State) → s .begun ≤ after r q n s .begun
+  unfolding after
+  after-more zero s = omega arith
+  after-more (suc n) s = omega (arith, after-more n s, advance-more (after r q n s))
+
+  pub step : Proper r → (N : ℕ) → Stepwise r q N (after r q N)
+  step ok N = record { done = λ s e. after-done r q N s e; sound = λ n s h. after-sound r q ok n s h N; begun = λ s. after-more N s }
+
+-- the place of a line is a small number
+pub lines-low : {r : Rule} {l : Layout} → Known r l → (i : ℕ) → i ≤ 256 → i * l .size ≤ 4608
+lines-low {r} {l} kn i h =
+    let w : l .size ≤ 18 = omega (arith, kn .size', kn .proper .few, count-le (r .variables) (LC (flowOf r))) in
+    mul-le-mul h w
+
+-- ---- a turn
+abbrev pub placed : {r : Rule} {l : Layout} {from : ℕ} {out work : List Word} → Known r l → RowAt r (l .quota) from out work → Placed l from out work
+placed {r} kn k = record { rule = r; known = kn; at = k }
+
+module _ {r : Rule} {l : Layout} {from : ℕ} {out work : List Word} (kn : Known r l) (k : RowAt r (l .quota) from out work) {row : Row} (lk : Looked l from out work (placed kn k) row) where
+  abbrev q : ℕ
+  q = l .quota
+
+  pub count-in : row .count ≤ q
+  count-in = omega (arith, lk .count, k .sound .labels-few)
+
+  abbrev pub held : Held r q (row .block) (take (row .count) (row .labels)) (row .vars)
+  held = record { state = k .state; sound = k .sound; going = k .going; block' = lk .block; labels' = lk .labels'; vars' = lk .vars' }
+
+  pub place-low : row .row * recordSize q ≤ 4845
+  place-low =
+      let a : row .row ≤ 255 = omega (arith, lk .row, k .few) in
+      let b : recordSize q ≤ 19 = omega (arith, kn .quota) in
+      mul-le-mul a b
+
+  pub place-fits : row .row * recordSize q + recordSize q ≤ length out
+  place-fits = rw (lk .row) (record-fits (placed kn k))
+
+  pub line-room : {to : ℕ} → to ≤ from → to + lineSize (countTo (l .variables) (bitOf (l .lc))) ≤ length work
+  line-room h = omega (arith, line-fits (placed kn k), mask-all kn)
+
+  pub row-few : row .row < 256
+  row-few = omega (arith, lk .row, k .few)
+
+  module _ (N : ℕ) {c : Carried} {labels vars : List Val} (w : Went r (k .state) (after r q N (k .state)) c labels vars) where
+    abbrev s' : State
+    s' = after r q N (k .state)
+
+    sound' : Sound r q (k .state .begun + N) s'
+    sound' = after-sound r q (kn .proper) (k .state .begun) (k .state) (k .sound) N
+
+    pub begun-is : row .begun + c .rounds ≡ s' .begun
+    begun-is = ap (λ (n : ℕ). n + c .rounds) (lk .begun) ∙ w .begun
+
+    pub begun-few : k .state .begun + N ≤ mostBudget → row .begun + c .rounds < 65536
+    begun-few h = omega (arith, begun-is, sound' .began)
+
+    pub count-few : c .count ≤ q
+    count-few = omega (arith, w .count, sound' .labels-few)
+
+    -- the record
+    module _ (out' : List Word) (eo : out' ≡ over out (row .row * recordSize q) (pos (c .status) ∷ pos (row .begun + c .rounds) ∷ pos (c .count) ∷ (take (c .count) labels ++ replicate (q - c .count) (pos 0)))) where
+      its-record : out' ≡ over out (k .row * recordSize q) (recordOf q s')
+      its-record = eo ∙ rw (lk .row, begun-is, w .status, w .labels', w .count)
+
+      -- it has ended
+      pub turned-off : (to : ℕ) → (c .status ≡ 0 → ⊥) → Turned r q (k .row) (k .state) to out work (after r q N) (c .status) (row .begun + c .rounds) out' work
+      turned-off to z = record {
+        status' = w .status;
+        begun' = begun-is;
+        record' = its-record;
+        line = rw (ne-eqb (s' .status) 0 (λ e. z (w .status ∙ e)));
+      }
+
+      -- it goes on
+      pub turned-on : (to : ℕ) (work' : List Word) → c .status ≡ 0 → work' ≡ over work to (pos (row .row) ∷ pos (c .block) ∷ columnsOf (l .variables) (bitOf (l .lc)) vars)
+          → Turned r q (k .row) (k .state) to out work (after r q N) (c .status) (row .begun + c .rounds) out' work'
+      turned-on to work' z ew =
+          let on : s' .status ≡ 0 = sym (w .status) ∙ z in
+          record {
+            status' = w .status;
+            begun' = begun-is;
+            record' = its-record;
+            line = rw (eq-eqb (s' .status) 0 on) (ew ∙ rw (lk .row, w .block on, columns-mask kn (s' .vars) vars (w .vars' on)));
+          }

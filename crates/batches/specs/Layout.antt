@@ -1,0 +1,38 @@
+-- The lines and records of a rule's rows, with its plan as the code knows it.
+use Prim.Native.Nat.{ℕ, _≤_}
+use mathlib.Core.Path.{_≡_}
+use mathlib.Core.List.{List}
+use Rattle.paper.specs.Rule.{Rule, size}
+use Rattle.paper.specs.Columns.{flowOf, LC}
+use Rattle.paper.specs.Plan.{maskOf, carried}
+use Rattle.paper.specs.Direct.{State}
+use Rattle.paper.specs.Batch.{Word, lineSize, lineOf, linesFrom}
+use Rattle.paper.specs.Calls.{columns}
+use Rattle.plans.specs.Accepted.{Accepted}
+use Rattle.rounds.specs.Round.{Lies}
+use Rattle.columns.specs.Proper.{Proper}
+use Rattle.batches.specs.declared.layout.Layout.{Layout}
+
+-- a line's size, a row's line and the lines of all rows, which are numbered from k on
+abbrev pub width : Rule → ℕ
+width r = lineSize (columns r)
+
+abbrev pub lineIn : Rule → ℕ → State → List Word
+lineIn r row s = lineOf (r .variables) (LC (flowOf r)) row s
+
+abbrev pub linesIn : Rule → ℕ → List State → List Word
+linesIn r k ss = linesFrom (r .variables) (LC (flowOf r)) k ss
+
+-- an accepted plan, and an array that begins with the rule that it carries
+pub record Running (plan rule : List ℕ) : Type 0 where
+  pub accepted : Accepted plan
+  pub bytes : Lies (carried plan) rule
+
+-- what the code knows of a rule and a quota that are allowed
+pub record Known (r : Rule) (l : Layout) : Type 0 where
+  pub proper : Proper r
+  pub blocks : size r ≤ 64
+  pub variables : l .variables ≡ r .variables
+  pub mask : l .lc ≡ maskOf (r .variables) (LC (flowOf r))
+  pub size' : l .size ≡ width r
+  pub quota : l .quota ≤ 16

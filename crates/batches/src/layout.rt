@@ -1,0 +1,148 @@
+// How a batch lies in its two buffers: the one reader and the one writer of a record and of a line.
+ghost use mathlib.Core.Path.{_≡_};
+ghost use mathlib.Core.Bool.{true};
+ghost use mathlib.Core.List.{_∷_, _++_};
+ghost use Prim.Native.Nat.{_+_, _-_, _*_, _≤_, _<_};
+ghost use lib.IntN.{pos, natAbs};
+ghost use lib.Signed.{nonNeg};
+ghost use lib.ListN.{length, getD, take, drop, replicate};
+ghost use Rattle.words.specs.Words.{over};
+ghost use Rattle.paper.specs.Batch.{recordSize, lineSize, countTo, columnsOf};
+ghost use Rattle.paper.proofs.Masks.{bitOf};
+ghost use Rattle.columns.specs.OnPlan.{spread};
+ghost use Rattle.batches.specs.Table.{Placed, Looked};
+
+// What a rule's lines and a call's records depend on: the variables, the LC columns among them, a line's size, and the quota.
+pub struct Layout {
+    pub variables: usize,
+    pub lc: u16,
+    pub size: usize,
+    pub quota: usize,
+}
+
+// ---- a record
+
+// Status, rounds begun, labels emitted, the labels, zeros: into out from index at on.
+pub fn put_record(
+    out: &mut [i32],
+    at: usize,
+    quota: usize,
+    status: u8,
+    begun: usize,
+    count: usize,
+    labels: &[i32; 16],
+)
+    requires { ⌜ (begun < 65536) × ((count ≤ quota) × ((quota ≤ 16) × (at + recordSize quota ≤ length (now out)))) ⌝ }
+    ensures { λ _. ⌜ now (out .exit) ≡ over (now (out .entry)) at (pos status ∷ pos begun ∷ pos count ∷ (take count (now (labels .entry)) ++ replicate (quota - count) (pos 0))) ⌝ }
+{
+    out[at] = status as i32;
+    out[at + 1] = begun as i32;
+    out[at + 2] = count as i32;
+    let first = at + 3;
+    let all = &labels[..];
+    words::copy_at(out, first, &all[0..count]);
+    words::clear_at(out, first + count, quota - count);
+}
+
+// ---- a line
+
+// The columns among the first v variables, in rising order: into work from index at on.
+fn put_columns(work: &mut [i32], at: usize, v: usize, lc: u16, vars: &[i32; 16])
+    requires { ⌜ (v ≤ 16) × (at + countTo v (bitOf lc) ≤ length (now work)) ⌝ }
+    ensures { λ _. ⌜ now (work .exit) ≡ over (now (work .entry)) at (columnsOf v (bitOf lc) (now (vars .entry))) ⌝ }
+{
+    let mut k: usize = 0;
+    while k < v {
+        if closure::has(lc, k) {
+            work[at + closure::place(lc, k)] = vars[k];
+        }
+        k += 1;
+    }
+}
+
+// Row number, block, columns: into work from index at on.
+pub fn put_line(
+    work: &mut [i32],
+    at: usize,
+    row: usize,
+    block: u8,
+    v: usize,
+    lc: u16,
+    vars: &[i32; 16],
+)
+    requires { ⌜ (row < 256) × ((v ≤ 16) × (at + lineSize (countTo v (bitOf lc)) ≤ length (now work))) ⌝ }
+    ensures { λ _. ⌜ now (work .exit) ≡ over (now (work .entry)) at (pos row ∷ pos block ∷ columnsOf v (bitOf lc) (now (vars .entry))) ⌝ }
+{
+    work[at] = row as i32;
+    work[at + 1] = block as i32;
+    put_columns(work, at + 2, v, lc, vars);
+}
+
+// ---- reading
+
+// A word that is a number from 0 up.
+fn number(s: &[i32], at: usize) -> usize
+    requires { ⌜ (at < length (now s)) × (nonNeg (getD (now s) at (pos 0)) ≡ true) ⌝ }
+    ensures { λ r. ⌜ r ≡ natAbs (getD (now (s .entry)) at (pos 0)) ⌝ }
+{
+    s[at] as usize
+}
+
+// The n words of src from index at on, then zeros.
+pub fn fetch(src: &[i32], at: usize, n: usize) -> [i32; 16]
+    requires { ⌜ (n ≤ 16) × (at + n ≤ length (now src)) ⌝ }
+    ensures { λ r. ⌜ r ≡ over (replicate 16 (pos 0)) 0 (take n (drop at (now (src .entry)))) ⌝ }
+{
+    let mut a = [0i32; 16];
+    let end = at + n;
+    words::copy_at(&mut a, 0, &src[at..end]);
+    a
+}
+
+// The columns that stand in work from index at on, each as its variable; all others are 0.
+fn columns_at(work: &[i32], at: usize, v: usize, lc: u16) -> [i32; 16]
+    requires { ⌜ (v ≤ 16) × (at + countTo v (bitOf lc) ≤ length (now work)) ⌝ }
+    ensures { λ r. ⌜ r ≡ spread v (bitOf lc) (drop at (now (work .entry))) ⌝ }
+{
+    let mut vars = [0i32; 16];
+    let mut k: usize = 0;
+    while k < v {
+        if closure::has(lc, k) {
+            vars[k] = work[at + closure::place(lc, k)];
+        }
+        k += 1;
+    }
+    vars
+}
+
+// An unfinished row, as its line and its record have it.
+pub struct Row {
+    pub row: usize,
+    pub block: u8,
+    pub begun: usize,
+    pub count: usize,
+    pub labels: [i32; 16],
+    pub vars: [i32; 16],
+}
+
+// The row whose line stands at `from`.
+pub fn read_row(out: &[i32], work: &[i32], from: usize, l: Layout) -> Row
+    requires { ⌜ Placed l from (now out) (now work) ⌝ }
+    ensures { λ r. ⌜ ((p : Placed l from (now (out .entry)) (now (work .entry))) → Looked l from (now (out .entry)) (now (work .entry)) p r) ⌝ }
+{
+    let row = number(work, from);
+    let block = number(work, from + 1) as u8;
+    let vars = columns_at(work, from + 2, l.variables, l.lc);
+    let at = row * (3 + l.quota);
+    let begun = number(out, at + 1);
+    let count = number(out, at + 2);
+    let labels = fetch(out, at + 3, count);
+    Row {
+        row,
+        block,
+        begun,
+        count,
+        labels,
+        vars,
+    }
+}
