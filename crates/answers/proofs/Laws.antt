@@ -1,0 +1,158 @@
+-- Laws of the input's values, of a run's reply and of the text of its records. Assumes nothing.
+use Prim.Native.Nat.{ℕ, zero, suc, _+_, _-_, _*_, _/_, _≤_, _<_}
+use mathlib.Core.Path.{_≡_, refl, sym, ap, _∙_}
+use mathlib.Core.Bool.{Bool, true, false, cond, not, _||_}
+use mathlib.Core.List.{List, [], _∷_, _++_}
+use native.Mathlib.Numerals.{add-one, unary-clauses}
+use native.Mathlib.Omega.{arith}
+use lib.Dec.{eqb, ltb}
+use borrow.Author.Tests.{ltb-false}
+use lib.IntN.{pos}
+use lib.ListN.{length, take, drop, set, getD, replicate}
+use lib.Seq.{take-suc-set}
+use Rattle.paper.specs.Values.{Val}
+use Rattle.paper.specs.Rule.{Rule}
+use Rattle.paper.specs.Grammar.{Got, got, refused, constantIn}
+use Rattle.paper.specs.Plan.{planned}
+use Rattle.paper.specs.Batch.{Word, recordSize}
+use Rattle.paper.specs.Finder.{mostRows, mostQuota}
+use Rattle.paper.specs.Calls.{Batch, refusal, mostBudget, Ran, Wrote, left, runReply, ranReply, recordsIn, toCompile, replyIn, bytesOf}
+use Rattle.paper.specs.declared.Refusal.{Refusal}
+use Rattle.paper.specs.declared.Reply.{Reply}
+use Rattle.paper.specs.declared.Reply.the-variants.{Done, Refused}
+use Rattle.rules.proofs.Promises.{done-bytes}
+use Rattle.texts.specs.Text.{wordsText, lineText, linesText, recordAt, answerText, refusalText}
+use Rattle.answers.specs.Answer.{numberIn, valuesIn, noBatch, batchIn, planRoom, resultRoom, workRoom, ranAnswer, batchAnswer, inputAnswer, fileAnswer, answerTo}
+
+-- ---- the values
+
+pub values-none : (s : List ℕ) → [] ≡ valuesIn s 0
+unfolding valuesIn
+values-none s = refl
+
+pub values-more : (s : List ℕ) (buf : List Val) (i : ℕ) {x : Val} → i < length buf → take i buf ≡ valuesIn s i → x ≡ constantIn s (12 + 4 * i)
+    → take (i + 1) (set buf i x) ≡ valuesIn s (i + 1)
+unfolding valuesIn
+values-more s buf i {x} h e k = rw add-one (take-suc-set buf i x h ∙ rw (e, k))
+
+-- ---- a run's reply
+
+no-refusal : (t : Bool) (k p : ℕ) {r : Reply} {most : ℕ} → cond t (refusal k p) r ≡ Done most → (t ≡ false) × (r ≡ Done most)
+no-refusal true k p e = let z : _≡_ {A = ℕ} 0 1 = cc in absurd (omega arith)
+no-refusal false k p e = (refl, e)
+
+neither : (a b : Bool) → (a || b) ≡ false → (a ≡ false) × (b ≡ false)
+neither true b e = let z : _≡_ {A = ℕ} 0 1 = cc in absurd (omega arith)
+neither false b e = (refl, e)
+
+-- a run that is done kept to the limits, and its records fit
+pub run-done : (b : Batch) (g : Got Rule) (outRoom workRoom : ℕ) {most : ℕ} → runReply b g outRoom workRoom ≡ Done most
+    → (b .rows ≤ 256) × ((b .quota ≤ 16) × (recordAt (b .quota) (b .rows) ≤ outRoom))
+unfolding runReply ranReply
+run-done b (got r n) outRoom workRoom e =
+    let p = no-refusal (ltb mostRows (b .rows) || not (eqb (length (b .values)) (b .rows * r .arguments))) 13 0 e in
+    let q = no-refusal (ltb mostBudget (b .budget) || ltb mostQuota (b .quota)) 14 0 (p .1) in
+    let s = no-refusal (ltb outRoom (recordAt (b .quota) (b .rows))) 12 0 (q .1) in (
+      ltb-false mostRows (b .rows) (neither (ltb mostRows (b .rows)) _ (p .0) .0),
+      (
+        ltb-false mostQuota (b .quota) (neither (ltb mostBudget (b .budget)) (ltb mostQuota (b .quota)) (q .0) .1),
+        ltb-false outRoom (recordAt (b .quota) (b .rows)) (s .0),
+      ),
+    )
+run-done b (refused k p) outRoom workRoom e = let z : _≡_ {A = ℕ} 0 1 = cc in absurd (omega arith)
+
+-- ---- the text of records
+
+-- a text depends only on the words that it reads
+module _ (xs ys : List Word) (h : (k : ℕ) → getD xs k (pos 0) ≡ getD ys k (pos 0)) where
+  same-words : (from n : ℕ) → wordsText xs from n ≡ wordsText ys from n
+  unfolding wordsText
+  same-words from zero = refl
+  same-words from (suc n) = rw (same-words from n, h (from + n))
+
+  same-lines : (q n : ℕ) → linesText q xs n ≡ linesText q ys n
+  unfolding linesText lineText
+  same-lines q zero = refl
+  same-lines q (suc n) = rw (same-lines q n, h (recordAt q n + 2), same-words (recordAt q n))
+
+  same-answer : (rows q most : ℕ) → answerText xs rows q most ≡ answerText ys rows q most
+  unfolding answerText
+  same-answer rows q most = rw (same-lines q rows)
+
+-- zeros after them read as the end does
+read-zeros : (xs : List Word) (m k : ℕ) → getD (xs ++ replicate m (pos 0)) k (pos 0) ≡ getD xs k (pos 0)
+read-zeros [] zero k = refl
+read-zeros [] (suc m) zero = refl
+read-zeros [] (suc m) (suc k) = read-zeros [] m k
+read-zeros (x ∷ xs) m zero = refl
+read-zeros (x ∷ xs) m (suc k) = read-zeros xs m k
+
+drop-zeros : (n m : ℕ) → drop n (replicate m (pos 0)) ≡ replicate (m - n) (pos 0)
+drop-zeros zero m = simp unary-clauses
+drop-zeros (suc n) zero = let e : 0 - suc n ≡ 0 = omega arith in rw e
+drop-zeros (suc n) (suc m) = simp unary-clauses (drop-zeros n m)
+
+-- ---- the answer to a batch, from what the run left
+module _ {b : Batch} {old work new work′ : List Word} {r : Reply} (ran : Ran b old work r new work′) (fits : length old ≡ resultRoom) (fits′ : length work ≡ workRoom) where
+  reply-is : r ≡ runReply b (planned (b .plan)) resultRoom workRoom
+  reply-is = ran .reply ∙ rw (fits, fits′)
+
+  pub done-text : (most : ℕ) → r ≡ Done most → (m : ℕ) → old ≡ replicate m (pos 0) → answerText new (b .rows) (b .quota) most ≡ batchAnswer b
+  unfolding batchAnswer ranAnswer
+  done-text most e m z =
+      let records = recordsIn b (planned (b .plan)) in
+      let is : new ≡ records ++ replicate (m - length records) (pos 0) = ran .result ∙ rw (e, z, drop-zeros) in
+      rw (← reply-is, e, is) (same-answer _ _ (read-zeros records (m - length records)) (b .rows) (b .quota) most)
+
+  pub refused-text : (w : Refusal) → r ≡ Refused w → refusalText (w .number) (w .place) ≡ batchAnswer b
+  unfolding batchAnswer ranAnswer
+  refused-text w e = rw (← reply-is, e)
+
+-- ---- the answer of a plan
+
+-- an input that holds a batch has three numbers, and no more values than there may be
+pub batch-size : (size : ℕ) → noBatch size ≡ false → (12 ≤ size) × (size ≤ 16396)
+batch-size size e =
+    let p = neither (ltb size 12) _ e in
+    (ltb-false size 12 (p .0), ltb-false 16396 size (neither (ltb 16396 size) _ (p .1) .0))
+
+module _ (plan s : List ℕ) where
+  pub cut-text : noBatch (length s) ≡ true → refusalText 13 0 ≡ inputAnswer plan s
+  unfolding inputAnswer
+  cut-text e = rw e
+
+  pub whole-text : noBatch (length s) ≡ false → batchAnswer (batchIn plan s) ≡ inputAnswer plan s
+  unfolding inputAnswer
+  whole-text e = rw e
+
+  -- the same batch, from its parts
+  pub batch-text : {values : List Val} {rows budget quota : ℕ} → rows ≡ numberIn s 0 → values ≡ valuesIn s ((length s - 12) / 4) → budget ≡ numberIn s 4
+      → quota ≡ numberIn s 8 → batchAnswer (record { plan = plan; rows = rows; values = values; budget = budget; quota = quota }) ≡ batchAnswer (batchIn plan s)
+  batch-text r v b q = rw (r, v, b, q)
+
+-- ---- the answer of a file
+
+-- what is written fits
+fits-in : (what : Got (List ℕ)) (room n : ℕ) → replyIn room what ≡ Done n → n ≤ room
+unfolding replyIn
+fits-in (got xs m) room n e =
+    let p = no-refusal (ltb room (length xs)) 12 0 e in
+    let is : length xs ≡ n = cc in
+    omega (arith, ltb-false room (length xs) (p .0))
+fits-in (refused k p) room n e = let z : _≡_ {A = ℕ} 0 1 = cc in absurd (omega arith)
+
+module _ (file : List ℕ) {old new : List ℕ} {r : Reply} (w : Wrote (toCompile file) old r new) where
+  pub plan-fits : (n : ℕ) → r ≡ Done n → n ≤ length old
+  plan-fits n e = fits-in (toCompile file) (length old) n (sym (w .reply) ∙ e)
+
+  module _ (fits : length old ≡ planRoom) where
+    file-reply : r ≡ replyIn planRoom (toCompile file)
+    file-reply = w .reply ∙ rw fits
+
+    pub file-done : (n : ℕ) → r ≡ Done n → (s : List ℕ) → inputAnswer (take n new) s ≡ answerTo file s
+    unfolding answerTo fileAnswer
+    file-done n e s = rw (← file-reply, e, done-bytes (toCompile file) old n new (rw e at w))
+
+    pub file-refused : (f : Refusal) → r ≡ Refused f → (s : List ℕ) → refusalText (f .number) (f .place) ≡ answerTo file s
+    unfolding answerTo fileAnswer
+    file-refused f e s = rw (← file-reply, e)

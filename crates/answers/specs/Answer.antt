@@ -1,0 +1,66 @@
+-- 01, the program: what it prints, of the file's bytes and the input's bytes.
+use Prim.Native.Nat.{ℕ, zero, suc, _+_, _-_, _*_, _/_, _%_}
+use mathlib.Core.Bool.{Bool, cond, not, _||_}
+use mathlib.Core.List.{List, [], _∷_, _++_}
+use lib.Dec.{eqb, ltb}
+use lib.ListN.{length, getD}
+use Rattle.paper.specs.Values.{Val}
+use Rattle.paper.specs.Grammar.{wordOf, constantIn}
+use Rattle.paper.specs.Plan.{planned}
+use Rattle.paper.specs.Batch.{Word}
+use Rattle.paper.specs.Calls.{Batch, toCompile, replyIn, bytesOf, runReply, recordsIn}
+use Rattle.paper.specs.declared.Refusal.{Refusal}
+use Rattle.paper.specs.declared.Reply.{Reply}
+use Rattle.paper.specs.declared.Reply.the-variants.{Done, Refused}
+use Rattle.texts.specs.Text.{answerText, refusalText}
+
+-- ---- the input: rows, budget and quota, then the values
+
+-- the number in the four bytes at a place
+abbrev pub numberIn : List ℕ → ℕ → ℕ
+numberIn s at = wordOf (getD s at 0) (getD s (at + 1) 0) (getD s (at + 2) 0) (getD s (at + 3) 0)
+
+-- the first n values, which start after the three numbers
+unfoldable pub valuesIn : List ℕ → ℕ → List Val
+valuesIn s zero = []
+valuesIn s (suc n) = valuesIn s n ++ (constantIn s (12 + 4 * n) ∷ [])
+
+-- a length that holds no batch: too short for the numbers, longer than 256 rows of 16 values, or with a value cut short
+abbrev pub noBatch : ℕ → Bool
+noBatch size = ltb size 12 || (ltb 16396 size || not (eqb (size % 4) 0))
+
+abbrev pub batchIn : List ℕ → List ℕ → Batch
+batchIn plan s =
+    record { plan = plan; rows = numberIn s 0; values = valuesIn s ((length s - 12) / 4); budget = numberIn s 4; quota = numberIn s 8 }
+
+-- ---- the text
+
+-- room for every plan, and for the records and the lines of every batch
+abbrev pub planRoom : ℕ
+planRoom = 4578
+
+abbrev pub resultRoom : ℕ
+resultRoom = 4864
+
+abbrev pub workRoom : ℕ
+workRoom = 4608
+
+-- of a batch: its records, or why it is refused
+unfoldable pub ranAnswer : Batch → Reply → List Word → List ℕ
+ranAnswer b (Done most) records = answerText records (b .rows) (b .quota) most
+ranAnswer b (Refused f) records = refusalText (f .number) (f .place)
+
+unfoldable pub batchAnswer : Batch → List ℕ
+batchAnswer b = ranAnswer b (runReply b (planned (b .plan)) resultRoom workRoom) (recordsIn b (planned (b .plan)))
+
+-- of a plan and an input; 13 where the input holds no batch
+unfoldable pub inputAnswer : List ℕ → List ℕ → List ℕ
+inputAnswer plan s = cond (noBatch (length s)) (refusalText 13 0) (batchAnswer (batchIn plan s))
+
+-- of a file and an input: the file's refusals come first
+unfoldable pub fileAnswer : Reply → List ℕ → List ℕ → List ℕ
+fileAnswer (Done n) plan s = inputAnswer plan s
+fileAnswer (Refused f) plan s = refusalText (f .number) (f .place)
+
+unfoldable pub answerTo : List ℕ → List ℕ → List ℕ
+answerTo file s = fileAnswer (replyIn planRoom (toCompile file)) (bytesOf (toCompile file)) s

@@ -1,0 +1,187 @@
+-- Places, sizes and the most rounds are small, so that an answer's halves can be told apart. Assumes nothing.
+use Prim.Native.Nat.{ℕ, zero, suc, _+_, _*_, _/_, _≤_}
+use native.Mathlib.Omega.{arith}
+use native.Mathlib.Nat.{max-le}
+use mathlib.Core.Path.{_≡_, refl}
+use mathlib.Core.Bool.{Bool, true, false, cond, not, _||_, _&&_}
+use mathlib.Core.List.{List, [], _∷_, _++_, map, append-assoc, append-nil}
+use lib.Dec.{ltb, eqb}
+use lib.ListN.{length, length-append, length-take, length-drop}
+use borrow.Author.Tests.{ltb-false}
+use Rattle.paper.specs.Rule.{Rule, size}
+use Rattle.paper.specs.Values.{Val}
+use Rattle.paper.specs.Direct.{State, unfinished, Round, jumped, finished, walk, joined, advance, after}
+use Rattle.paper.specs.Batch.{Word, recordSize, lineSize, startAt, startsOf, statesOf, mostOf}
+use Rattle.paper.specs.Grammar.{Got, got, refused, then, ruleOf, longest}
+use Rattle.paper.specs.Pages.{wordAt, checkOf, pageIn, payloadOf, lengthOk, fillerOk, sizeOk, pageAt, payloadTo, unpacked, fileOf}
+use Rattle.paper.specs.Calls.{refusal, toRead, toWrite, toCompile, replyIn, Wrote, Batch, Ran, ranReply, runReply, rowsOf, columns, mostBudget}
+use Rattle.paper.specs.Finder.{mostRows, mostQuota}
+use Rattle.paper.specs.Plan.{planOf, planned}
+use Rattle.paper.specs.declared.Reply.{Reply}
+use Rattle.paper.specs.declared.Reply.the-variants.{Done}
+use Rattle.pages.proofs.Reading.{size-is}
+use Rattle.pages.proofs.Writing.{length-file}
+use Rattle.rules.specs.Accepted.{RuleIn}
+use Rattle.rules.proofs.Sound.{Sound}
+use Rattle.rules.proofs.Accepted.{rule-sound, rule-in}
+use Rattle.plans.proofs.Fields.{plan-length}
+use Rattle.plans.proofs.Ruling.{rule-long}
+use Rattle.tap.specs.Packed.{packed, Clear, Stands}
+
+-- what is to be written, or the place of what is refused, is at most m
+unfoldable pub Within : ℕ → Got (List ℕ) → Type 0
+Within m (got xs n) = length xs ≤ m
+Within m (refused k p) = (1 ≤ k) × ((k ≤ 15) × (p ≤ m))
+
+pub clear-wrote : {what : Got (List ℕ)} {old : List ℕ} {r : Reply} {new : List ℕ} → Within 8192 what → Wrote what old r new → Clear r
+unfolding Within replyIn Clear
+clear-wrote {what = got xs n} {old = old} h w = rw (w .reply) (go (ltb (length old) (length xs)))
+  where
+    go : (b : Bool) → Clear (cond b (refusal 12 0) (Done (length xs)))
+    go true = (omega arith, (omega arith, omega arith))
+    go false = omega arith
+clear-wrote {what = refused k p} h w = rw (w .reply) (h .0, (h .1 .0, omega arith))
+
+-- the inner call's answer, packed
+pub answered : {what : Got (List ℕ)} {old : List ℕ} {r : Reply} {new : List ℕ} {x : ℕ} → Within 8192 what → Wrote what old r new → x ≡ packed r → Stands (λ r. Wrote what old r new) x
+answered {r = r} h w e = record { reply = r; holds = w; clear = clear-wrote h w; packs = e }
+
+-- ---- files
+
+-- page k, of which nothing is asked: its payload is a part of it
+page-within : (last : Bool) (file : List ℕ) (k : ℕ) → Within (k + 512) (pageAt last (pageIn file k) k)
+unfolding pageAt Within
+page-within last file k = go (eqb (wordAt (pageIn file k) 510) (checkOf k (pageIn file k))) (lengthOk last (wordAt (pageIn file k) 0) && fillerOk (pageIn file k))
+  where
+    go : (a b : Bool) → Within (k + 512) (cond (not a) (refused 2 k) (cond (not b) (refused 3 k) (got (payloadOf (pageIn file k)) (k + 1))))
+    go false b = (omega arith, (omega arith, omega arith))
+    go true false = (omega arith, (omega arith, omega arith))
+    go true true = simp (length-take, length-drop) (omega arith)
+
+pages-within : (file : List ℕ) (P k : ℕ) → k ≤ 8 → Within (k * 520) (payloadTo file P k)
+unfolding payloadTo Within
+pages-within file P zero few = omega arith
+pages-within file P (suc k) few = go (payloadTo file P k) (pageAt (eqb (k + 1) P) (pageIn file k) k) (pages-within file P k (omega arith)) (page-within (eqb (k + 1) P) file k)
+  where
+    go : (p q : Got (List ℕ)) → Within (k * 520) p → Within (k + 512) q → Within (suc k * 520) (then p (λ xs at. then q (λ ys next. got (xs ++ ys) next)))
+    go (got xs n) (got ys m) h l = simp length-append (omega arith)
+    go (got xs n) (refused i j) h l = (l .0, (l .1 .0, omega arith))
+    go (refused i j) q h l = (h .0, (h .1 .0, omega arith))
+
+file-within : (file : List ℕ) → Within 4160 (unpacked file)
+unfolding unpacked Within
+file-within file = go (sizeOk (length file)) refl
+  where
+    wider : (m n : ℕ) (p : Got (List ℕ)) → m ≤ n → Within m p → Within n p
+    wider m n (got xs a) h l = omega arith
+    wider m n (refused i j) h l = (l .0, (l .1 .0, omega arith))
+
+    go : (b : Bool) → sizeOk (length file) ≡ b → Within 4160 (cond b (payloadTo file (length file / 512) (length file / 512)) (refused 1 0))
+    go true e =
+        let few = size-is (length file) e in
+        let k : length file / 512 ≤ 8 = omega arith in
+        wider (length file / 512 * 520) 4160 (payloadTo file (length file / 512) (length file / 512)) (omega arith) (pages-within file (length file / 512) (length file / 512) k)
+    go false e = (omega arith, (omega arith, omega arith))
+
+-- ---- the calls
+
+-- what is made of a rule of such bytes
+of-rule :
+    (s : List ℕ) (f : Rule → List ℕ) → length s ≤ 4160 → ((r : Rule) (n : ℕ) → ruleOf s ≡ got r n → length (f r) ≤ 8192)
+    → Within 8192 (then (ruleOf s) (λ r n. got (f r) n))
+unfolding Within Sound
+of-rule s f short small = go (ruleOf s) refl (rule-sound s)
+  where
+    go : (p : Got Rule) → ruleOf s ≡ p → Sound (RuleIn s) 3 (length s) p → Within 8192 (then p (λ r n. got (f r) n))
+    go (got r n) e h = small r n e
+    go (refused k p) e h = (omega arith, (omega arith, omega arith))
+
+of-file : (file : List ℕ) (f : List ℕ → Rule → List ℕ) → ((s : List ℕ) (r : Rule) (n : ℕ) → length s ≤ 4160 → ruleOf s ≡ got r n → length (f s r) ≤ 8192)
+    → Within 8192 (then (unpacked file) (λ s _. then (ruleOf s) (λ r n. got (f s r) n)))
+unfolding Within
+of-file file f small = go (unpacked file) (file-within file)
+  where
+    go : (p : Got (List ℕ)) → Within 4160 p → Within 8192 (then p (λ s _. then (ruleOf s) (λ r n. got (f s r) n)))
+    go (got s m) h = of-rule s (f s) h (λ r n e. small s r n h e)
+    go (refused k p) h = (h .0, (h .1 .0, omega arith))
+
+pub read-within : (file : List ℕ) → Within 8192 (toRead file)
+unfolding toRead
+read-within file = of-file file (λ s _. s) (λ s r n h e. omega arith)
+
+pub write-within : (s : List ℕ) → Within 8192 (toWrite s)
+unfolding toWrite Within
+write-within s = go (ltb longest (length s)) refl
+  where
+    go : (b : Bool) → ltb longest (length s) ≡ b → Within 8192 (cond b (refused 11 0) (then (ruleOf s) (λ r n. got (fileOf s) n)))
+    go true e = (omega arith, (omega arith, omega arith))
+    go false e = let h = ltb-false longest (length s) e in of-rule s (λ _. fileOf s) (omega arith) (λ r n q. omega (arith, length-file s))
+
+pub compile-within : (file : List ℕ) → Within 8192 (toCompile file)
+unfolding toCompile
+compile-within file =
+    of-file file (λ s r. planOf r s) (λ s r n h e.
+    let few = rule-in s r n e .blocks-to in
+    omega (arith, plan-length r s (rule-long s r n e)))
+
+-- ---- the most rounds
+
+module _ (r : Rule) (q : ℕ) where
+  one-more : (s : State) → advance r q s .begun ≤ s .begun + 1
+  unfolding advance
+  one-more s = go (eqb (s .status) unfinished) (walk (size r) r q (s .block) (s .vars) (s .labels))
+    where
+      go : (b : Bool) (w : Round) → cond b (joined s w) s .begun ≤ s .begun + 1
+      go true (jumped t env ls) = omega arith
+      go true (finished st ls) = omega arith
+      go false w = omega arith
+
+  began : (n : ℕ) (s : State) → after r q n s .begun ≤ s .begun + n
+  unfolding after
+  began zero s = omega arith
+  began (suc n) s = omega (arith, one-more (after r q n s), began n s)
+
+  -- no row begins more rounds than the budget, whatever the order in which rows are added
+  most-began : (values : List Val) (N rows : ℕ) (more : List State) → mostOf (map (after r q N) more) ≤ N → mostOf (map (after r q N) (startsOf r values rows ++ more)) ≤ N
+  unfolding startsOf mostOf
+  most-began values N zero more h = h
+  most-began values N (suc n) more h =
+      let b : after r q N (startAt r values n) .begun ≤ N = omega (arith, began N (startAt r values n)) in
+      rw append-assoc (most-began values N n (startAt r values n ∷ more) (max-le b h))
+
+  pub most-few : (values : List Val) (N rows : ℕ) → mostOf (statesOf r values rows N q) ≤ N
+  unfolding mostOf
+  most-few values N rows = rw (append-nil (startsOf r values rows)) at (most-began values N rows [] (omega arith))
+
+-- ---- the run
+
+-- a refusal of the calls, whose place is 0 or 1
+clear-refused : (k p : ℕ) → 1 ≤ k → k ≤ 15 → p ≤ 1 → Clear (refusal k p)
+unfolding Clear
+clear-refused k p l u h = (l, (u, omega arith))
+
+pub clear-run : {b : Batch} {out work : List Word} {x : Reply} {out′ work′ : List Word} → Ran b out work x out′ work′ → Clear x
+unfolding runReply ranReply Clear
+clear-run {b = b} {out = out} {work = work} w = rw (w .reply) (go (planned (b .plan)))
+  where
+    ran :
+        (r : Rule) (rows limits first second : Bool) → (limits ≡ false → b .budget ≤ mostBudget)
+        → Clear (cond rows (refusal 13 0) (cond limits (refusal 14 0) (cond first (refusal 12 0) (cond second (refusal 12 1) (Done (mostOf (rowsOf b r)))))))
+    ran r true limits first second h = clear-refused 13 0 (omega arith) (omega arith) (omega arith)
+    ran r false true first second h = clear-refused 14 0 (omega arith) (omega arith) (omega arith)
+    ran r false false true second h = clear-refused 12 0 (omega arith) (omega arith) (omega arith)
+    ran r false false false true h = clear-refused 12 1 (omega arith) (omega arith) (omega arith)
+    ran r false false false false h = omega (arith, h refl, most-few r (b .quota) (b .values) (b .budget) (b .rows))
+
+    few : (t : Bool) → ltb mostBudget (b .budget) || t ≡ false → b .budget ≤ mostBudget
+    few t e = go′ (ltb mostBudget (b .budget)) refl e
+      where
+        go′ : (a : Bool) → ltb mostBudget (b .budget) ≡ a → a || t ≡ false → b .budget ≤ mostBudget
+        go′ true p q = let z : _≡_ {A = ℕ} 0 1 = cc in absurd (omega arith)
+        go′ false p q = ltb-false mostBudget (b .budget) p
+
+    go : (p : Got Rule) → Clear (runReply b p (length out) (length work))
+    go (got r n) =
+        ran r (ltb mostRows (b .rows) || not (eqb (length (b .values)) (b .rows * r .arguments))) (ltb mostBudget (b .budget) || ltb mostQuota (b .quota))
+        (ltb (length out) (b .rows * recordSize (b .quota))) (ltb (length work) (b .rows * lineSize (columns r))) (few (ltb mostQuota (b .quota)))
+    go (refused k p) = clear-refused 15 0 (omega arith) (omega arith) (omega arith)

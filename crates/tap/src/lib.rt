@@ -1,0 +1,77 @@
+// The calls, exported for C and Rust. A slice passes as a pointer and a length; what an answer's 64 bits hold is said in specs/.
+ghost use mathlib.Core.Path.{_≡_};
+ghost use Rattle.paper.specs.Calls.{Wrote, Ran, toRead, toWrite, toCompile};
+ghost use Rattle.tap.specs.Packed.{packed, Clear, Stands};
+use paper::Reply;
+
+// A reply in 64 bits.
+fn pack(r: Reply) -> u64
+    requires { ⌜ Clear r ⌝ }
+    ensures { λ x. ⌜ x ≡ packed r ⌝ }
+{
+    match r {
+        Reply::Done(n) => n as u64,
+        Reply::Refused(f) => {
+            let number = f.number as u64;
+            let place = f.place as u64;
+            number * 4294967296 + place
+        }
+    }
+}
+
+#[no_mangle]
+pub extern "C" fn tap_read(file: &[u8], out: &mut [u8]) -> u64
+    ensures { λ x. ⌜ Stands (λ r. Wrote (toRead (now (file .entry))) (now (out .entry)) r (now (out .exit))) x ⌝ }
+{
+    let r = rules::read(file, out);
+    pack(r)
+}
+
+#[no_mangle]
+pub extern "C" fn tap_write(rule: &[u8], out: &mut [u8]) -> u64
+    ensures { λ x. ⌜ Stands (λ r. Wrote (toWrite (now (rule .entry))) (now (out .entry)) r (now (out .exit))) x ⌝ }
+{
+    let r = rules::write(rule, out);
+    pack(r)
+}
+
+#[no_mangle]
+pub extern "C" fn tap_compile(file: &[u8], out: &mut [u8]) -> u64
+    ensures { λ x. ⌜ Stands (λ r. Wrote (toCompile (now (file .entry))) (now (out .entry)) r (now (out .exit))) x ⌝ }
+{
+    let r = plans::compile(file, out);
+    pack(r)
+}
+
+#[no_mangle]
+pub extern "C" fn tap_run(
+    plan: &[u8],
+    rows: u32,
+    values: &[i32],
+    budget: u32,
+    quota: u32,
+    out: &mut [i32],
+    work: &mut [i32],
+) -> u64
+    ensures { λ x.
+        ⌜ Stands
+        (λ r. Ran
+        (record { plan = now (plan .entry); rows = rows; values = now (values .entry); budget = budget; quota = quota })
+        (now (out .entry))
+        (now (work .entry))
+        r
+        (now (out .exit))
+        (now (work .exit)))
+        x ⌝ }
+{
+    let r = batches::run(
+        plan,
+        rows as usize,
+        values,
+        budget as usize,
+        quota as usize,
+        out,
+        work,
+    );
+    pack(r)
+}
