@@ -224,9 +224,6 @@ module _ {r : Rule} {q n m live : ℕ} {g : State → State} {out work : List Wo
             }
 
     module _ (d : Ready r q n g live most out work t i kept top out' work') where
-      pub mid-kept : kept ≤ i
-      mid-kept = kept-few (d .done) (d .row) (d .more) (d .going) (d .mid)
-
       -- the row, where the code finds it: the size of a line is in its hands
       unfoldable pub mid-row : (size : ℕ) → size ≡ width r → RowAt r q (i * size) out' work'
       mid-row = row-at (d .done) (d .row) (d .more) (d .going) (d .mid)

@@ -41,11 +41,6 @@ module _ (P : State → Type 0) where
   all-append [] b h k = k
   all-append (s ∷ a) b h k = (h .0, all-append a b (h .1) k)
 
-  pub all-more : (Q : State → Type 0) → ((s : State) → P s → Q s) → (ss : List State) → All P ss → All Q ss
-  unfolding All
-  all-more Q k [] h = tt
-  all-more Q k (s ∷ ss) h = (k s (h .0), all-more Q k ss (h .1))
-
   pub all-map : (Q : State → Type 0) (g : State → State) → ((s : State) → P s → Q (g s)) → (ss : List State) → All P ss → All Q (map g ss)
   unfolding All
   all-map Q g k [] h = tt
@@ -103,8 +98,8 @@ quiet-lines r k [] h = refl
 quiet-lines r k (s ∷ ss) h = go (goesOn s) refl (quiet-lines r (k + 1) ss)
   where
     go : (b : Bool) → goesOn s ≡ b → (liveOf ss ≡ 0 → linesIn r (k + 1) ss ≡ []) → cond (goesOn s) (lineIn r k s) [] ++ linesIn r (k + 1) ss ≡ []
-    go true e r = absurd (omega (arith, rw e at h))
-    go false e r = rw e (r (omega (arith, rw e at h)))
+    go true e rest = absurd (omega (arith, rw e at h))
+    go false e rest = rw e (rest (omega (arith, rw e at h)))
 
 pub quiet-map : (g : State → State) → ((s : State) → goesOn s ≡ false → g s ≡ s) → (ss : List State) → liveOf ss ≡ 0 → map g ss ≡ ss
 unfolding liveOf
@@ -112,8 +107,8 @@ quiet-map g d [] h = refl
 quiet-map g d (s ∷ ss) h = go (goesOn s) refl (quiet-map g d ss)
   where
     go : (b : Bool) → goesOn s ≡ b → (liveOf ss ≡ 0 → map g ss ≡ ss) → map g (s ∷ ss) ≡ s ∷ ss
-    go true e r = absurd (omega (arith, rw e at h))
-    go false e r = rw (d s e, r (omega (arith, rw e at h)))
+    go true e rest = absurd (omega (arith, rw e at h))
+    go false e rest = rw (d s e, rest (omega (arith, rw e at h)))
 
 one : (b : Bool) → cond b 1 0 ≤ 1
 one true = omega arith
@@ -160,8 +155,8 @@ next [] h = absurd (omega arith)
 next (s ∷ ss) h = go (goesOn s) refl (next ss)
   where
     go : (b : Bool) → goesOn s ≡ b → (0 < liveOf ss → Next ss) → Next (s ∷ ss)
-    go true e r = record { done = []; row = s; more = ss; split = refl; quiet = refl; going = e }
-    go false e r = next-skip s ss e (r (omega (arith, rw e at h)))
+    go true e rest = record { done = []; row = s; more = ss; split = refl; quiet = refl; going = e }
+    go false e rest = next-skip s ss e (rest (omega (arith, rw e at h)))
 
 -- ---- the most rounds begun, when one row has begun more
 pub most-more : (a b : List State) (s s' : State) → s .begun ≤ s' .begun → mostOf (a ++ s' ∷ b) ≡ max (mostOf (a ++ s ∷ b)) (s' .begun)

@@ -6,7 +6,7 @@ ghost use Rattle.paper.specs.Finder.{isNumber, isLine, lineIndex, linePart, fou
 ghost use Rattle.batches.specs.Limits.{within};
 
 // Whether a word is the number n.
-fn is_number(x: i32, n: usize) -> bool
+pub fn is_number(x: i32, n: usize) -> bool
     requires { ⌜ n < 256 ⌝ }
     ensures { λ r. ⌜ r ≡ isNumber x n ⌝ }
 {
@@ -27,7 +27,7 @@ fn is_line(work: &[i32], size: usize, i: usize, row: usize) -> bool
 }
 
 // The first whole line with this row's number, or rows.
-fn line_index(work: &[i32], rows: usize, size: usize, row: usize) -> usize
+pub fn line_index(work: &[i32], rows: usize, size: usize, row: usize) -> usize
     requires { ⌜ (rows ≤ 256) × ((2 ≤ size) × ((size ≤ 18) × (row < 256))) ⌝ }
     ensures { λ r. ⌜ (r ≡ lineIndex (now (work .entry)) size row 0 rows) × ((r < rows → r * size + size ≤ length (now (work .entry)))) ⌝ }
 {
@@ -56,7 +56,7 @@ fn line<'a>(work: &'a [i32], rows: usize, size: usize, row: usize) -> &'a [i32]
 }
 
 // Whether the numbers keep to their limits and all records fit into so many words.
-fn allowed(rows: usize, quota: usize, columns: usize, row: usize, words: usize) -> bool
+pub fn allowed(rows: usize, quota: usize, columns: usize, row: usize, words: usize) -> bool
     ensures { λ r. ⌜ r ≡ within rows quota columns row words ⌝ }
 {
     if rows <= row {

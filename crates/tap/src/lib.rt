@@ -2,6 +2,7 @@
 ghost use mathlib.Core.Path.{_≡_};
 ghost use Rattle.paper.specs.Calls.{Wrote, Ran, toRead, toWrite, toCompile};
 ghost use Rattle.tap.specs.Packed.{packed, Clear, Stands};
+ghost use Rattle.tap.specs.Place.{placed, placeIn};
 use paper::Reply;
 
 // A reply in 64 bits.
@@ -74,4 +75,44 @@ pub extern "C" fn tap_run(
         work,
     );
     pack(r)
+}
+
+// Where the part lies that the finder gives.
+fn place(result: &[i32], work: &[i32], rows: usize, quota: usize, columns: usize, row: usize) -> u64
+    ensures { λ x. ⌜ x ≡ placed (placeIn (now (result .entry)) (now (work .entry)) rows quota columns row) ⌝ }
+{
+    if batches::allowed(rows, quota, columns, row, result.len()) {
+        let at = row * (3 + quota);
+        if batches::is_number(result[at], 0) {
+            let size = 2 + columns;
+            let i = batches::line_index(work, rows, size, row);
+            if i < rows {
+                return 8589934592 + (i * size) as u64;
+            }
+            return 0;
+        }
+        return 4294967296 + at as u64;
+    }
+    0
+}
+
+#[no_mangle]
+pub extern "C" fn tap_find(
+    result: &[i32],
+    work: &[i32],
+    rows: u32,
+    quota: u32,
+    columns: u32,
+    row: u32,
+) -> u64
+    ensures { λ x. ⌜ x ≡ placed (placeIn (now (result .entry)) (now (work .entry)) rows quota columns row) ⌝ }
+{
+    place(
+        result,
+        work,
+        rows as usize,
+        quota as usize,
+        columns as usize,
+        row as usize,
+    )
 }
