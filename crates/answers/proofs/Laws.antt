@@ -1,6 +1,6 @@
 -- Laws of the input's values, of a run's reply and of the text of its records. Assumes nothing.
 use Prim.Native.Nat.{ℕ, zero, suc, _+_, _-_, _*_, _/_, _≤_, _<_}
-use mathlib.Core.Path.{_≡_, refl, sym, ap, _∙_}
+use mathlib.Core.Path.{_≡_, refl, sym, _∙_}
 use mathlib.Core.Bool.{Bool, true, false, cond, not, _||_}
 use mathlib.Core.List.{List, [], _∷_, _++_}
 use native.Mathlib.Numerals.{add-one, unary-clauses}
@@ -14,9 +14,9 @@ use Rattle.paper.specs.Values.{Val}
 use Rattle.paper.specs.Rule.{Rule}
 use Rattle.paper.specs.Grammar.{Got, got, refused, constantIn}
 use Rattle.paper.specs.Plan.{planned}
-use Rattle.paper.specs.Batch.{Word, recordSize}
+use Rattle.paper.specs.Batch.{Word}
 use Rattle.paper.specs.Finder.{mostRows, mostQuota}
-use Rattle.paper.specs.Calls.{Batch, refusal, mostBudget, Ran, Wrote, left, runReply, ranReply, recordsIn, toCompile, replyIn, bytesOf}
+use Rattle.paper.specs.Calls.{Batch, refusal, mostBudget, Ran, Wrote, runReply, ranReply, recordsIn, toCompile, replyIn}
 use Rattle.paper.specs.declared.Refusal.{Refusal}
 use Rattle.paper.specs.declared.Reply.{Reply}
 use Rattle.paper.specs.declared.Reply.the-variants.{Done, Refused}

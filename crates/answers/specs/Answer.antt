@@ -9,7 +9,6 @@ use Rattle.paper.specs.Grammar.{wordOf, constantIn}
 use Rattle.paper.specs.Plan.{planned}
 use Rattle.paper.specs.Batch.{Word}
 use Rattle.paper.specs.Calls.{Batch, toCompile, replyIn, bytesOf, runReply, recordsIn}
-use Rattle.paper.specs.declared.Refusal.{Refusal}
 use Rattle.paper.specs.declared.Reply.{Reply}
 use Rattle.paper.specs.declared.Reply.the-variants.{Done, Refused}
 use Rattle.texts.specs.Text.{answerText, refusalText}
