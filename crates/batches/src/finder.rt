@@ -1,4 +1,4 @@
-// The finder: a row's record in the result buffer, or its line in the working buffer.
+// The finder: where a row stands in the caller's two buffers.
 ghost use mathlib.Core.Path.{_≡_};
 ghost use Prim.Native.Nat.{_+_, _*_, _≤_, _<_};
 ghost use lib.ListN.{length};

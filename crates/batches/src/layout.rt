@@ -22,7 +22,7 @@ pub struct Layout {
 
 // ---- a record
 
-// Status, rounds begun, labels emitted, the labels, zeros: into out from index at on.
+// A row's record into out, from index at on: its three numbers, then its labels, then zeros up to the quota.
 pub fn put_record(
     out: &mut [i32],
     at: usize,

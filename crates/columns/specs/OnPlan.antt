@@ -1,5 +1,5 @@
--- The run of a rule on the columns of its plan: a line holds the LC columns alone, a block is entered with its input columns alone and hands on
--- its output columns alone. That it gives what the direct run gives is the theorem `on-plan` of proofs/Walks.antt.
+-- The run of a rule on the columns of its plan: of a row only the LC columns are kept from round to round, each block sees no more than its inputs and
+-- passes on no more than its outputs. That it gives what the direct run gives is the theorem `on-plan` of proofs/Walks.antt.
 use Prim.Native.Nat.{ℕ, zero, suc}
 use mathlib.Core.Bool.{Bool, cond}
 use mathlib.Core.List.{List}

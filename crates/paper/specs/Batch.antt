@@ -32,7 +32,7 @@ statesOf r values rows N q = map (after r q N) (startsOf r values rows)
 abbrev pub recordSize : ℕ → ℕ
 recordSize q = 3 + q
 
--- status, rounds begun, labels emitted, the labels, zeros
+-- three numbers, then as many labels as the third says, then zeros up to the quota
 abbrev pub recordOf : ℕ → State → List Word
 recordOf q s = pos (s .status) ∷ pos (s .begun) ∷ pos (length (s .labels)) ∷ (s .labels ++ replicate (q - length (s .labels)) (pos 0))
 
@@ -56,7 +56,7 @@ columnsOf (suc v) f vars = columnsOf v f vars ++ cond (f v) (getD vars v (pos 0)
 abbrev pub lineSize : ℕ → ℕ
 lineSize columns = 2 + columns
 
--- row number, the block its next round starts at, the LC columns
+-- which row it is, where its next round begins, and what it knows
 abbrev pub lineOf : ℕ → (ℕ → Bool) → ℕ → State → List Word
 lineOf v lc row s = pos row ∷ pos (s .block) ∷ columnsOf v lc (s .vars)
 

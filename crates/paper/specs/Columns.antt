@@ -87,7 +87,7 @@ flowOf r = record {
 
 -- ---- the smallest sets
 
--- outputs(b) joins the inputs of all blocks that b's ending names
+-- what some block needs that the ending of b can lead to
 unfoldable pub outputs : Flow → (ℕ → ℕ → Bool) → ℕ → ℕ → Bool
 outputs g inputs b k = some (g .blocks) (λ t. g .names b t && inputs t k)
 

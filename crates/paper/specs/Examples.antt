@@ -1,4 +1,4 @@
--- 01, The count-down rule and other examples: E1 to E12, as one table under one claim. Each is computed from the definitions.
+-- 01, The count-down rule and other examples: the twelve worked examples in one table, and that all of them hold of the definitions, by computation.
 use Prim.Native.Nat.{ℕ, zero, suc}
 use Prim.{Unit, tt}
 use native.Mathlib.Numerals.{add-one}
@@ -57,7 +57,7 @@ abbrev words : List ℕ → List Word
 words [] = []
 words (n ∷ ns) = pos n ∷ words ns
 
--- case 1 less 2, 5, else 1 by 0
+-- 5 if 1 is below 2, and else a division by 0
 abbrev guarded : List ℕ
 guarded =
     0x09 ∷ 0x10 ∷ 0x01 ∷ 1 ∷ 0 ∷ 0 ∷ 0 ∷ 0x01 ∷ 2 ∷ 0 ∷ 0 ∷ 0

@@ -139,7 +139,7 @@ unfoldable mutual
   condAt zero v s at = then (byteAt s at) (λ t _. refused 8 at)
   condAt (suc d) v s at = then (byteAt s at) (λ t _. condBody (condTag t) (λ n. exprAt d v s n) (λ n. condAt d v s n) at)
 
--- they go to depth 8 together, counted afresh in each statement and each if
+-- eight levels for both kinds taken together; a statement's expression and an if's condition begin again at the first
 abbrev pub depth : ℕ
 depth = 8
 

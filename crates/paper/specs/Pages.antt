@@ -64,7 +64,7 @@ unfoldable pub allZero : List ℕ → Bool
 allZero [] = true
 allZero (x ∷ xs) = eqb x 0 && allZero xs
 
--- all pages but the last are full; the last holds 1 to 508 bytes
+-- only the last page may be short, and it holds a byte at least
 unfoldable pub lengthOk : Bool → ℕ → Bool
 lengthOk true n = between 1 payloadRoom n
 lengthOk false n = eqb n payloadRoom

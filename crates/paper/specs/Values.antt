@@ -68,7 +68,7 @@ divided y o = cond (eqb (natAbs y) 0) (fault (flaw ZeroDivisor)) o
 unfoldable pub quotient : Val → Val → Out Val
 quotient x y = divided y (settled (quotZ x y))
 
--- remainder is x minus y times that quotient
+-- what is left of x when y is taken off as often as the quotient says
 unfoldable pub remainder : Val → Val → Out Val
 remainder x y = divided y (settled (x -ℤ y *ℤ quotZ x y))
 

@@ -47,7 +47,7 @@ module _ (p : List ℕ) (r : Rule) (n : ℕ) where
       go false e k = let z : _≡_ {A = ℕ} 0 1 = cc in absurd (omega arith)
   taken (refused k at) h = let z : _≡_ {A = ℕ} 0 1 = cc in absurd (omega arith)
 
-  -- accepted exactly if the rule that it carries is accepted and compiles to it
+  -- the two sides of acceptance: what the definition tests, and what a plan then is
   pub is-plan : (planned p ≡ got r n) ↔ Plan p r n
   unfolding planned
   is-plan = (λ h. let t = taken (ruleOf (carried p)) h in record { rule = t .0; short = t .1; bytes = t .2 }, λ a. rw (a .rule) (rw (both a)))

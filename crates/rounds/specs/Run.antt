@@ -68,7 +68,7 @@ pub record Stepped (v : ℕ) (s : List ℕ) (at : ℕ) (h : BlockHere v s at) (q
 
 -- ---- masks
 
--- bit k of a mask is variable k
+-- a mask as a set of variables
 abbrev pub bitOf : ℕ → ℕ → Bool
 bitOf m k = eqb (m / 2 ^ k % 2) 1
 
