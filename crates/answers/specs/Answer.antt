@@ -8,7 +8,7 @@ use Rattle.paper.specs.Values.{Val}
 use Rattle.paper.specs.Grammar.{wordOf, constantIn}
 use Rattle.paper.specs.Plan.{planned}
 use Rattle.paper.specs.Batch.{Word}
-use Rattle.paper.specs.Calls.{Batch, toCompile, replyIn, bytesOf, runReply, recordsIn}
+use Rattle.paper.specs.Calls.{Batch, toCompile, replyIn, bytesIn, runReply, recordsIn}
 use Rattle.paper.specs.declared.Reply.{Reply}
 use Rattle.paper.specs.declared.Reply.the-variants.{Done, Refused}
 use Rattle.texts.specs.Text.{answerText, refusalText}
@@ -62,4 +62,4 @@ fileAnswer (Done n) plan s = inputAnswer plan s
 fileAnswer (Refused f) plan s = refusalText (f .number) (f .place)
 
 unfoldable pub answerTo : List ℕ → List ℕ → List ℕ
-answerTo file s = fileAnswer (replyIn planRoom (toCompile file)) (bytesOf (toCompile file)) s
+answerTo file s = fileAnswer (replyIn planRoom (toCompile file)) (bytesIn (toCompile file)) s

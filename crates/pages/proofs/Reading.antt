@@ -18,7 +18,7 @@ use Rattle.paper.specs.Pages.{wordAt, checkOf, pageIn, payloadOf, allZero, leng
 use Rattle.words.specs.Words.{over}
 use Rattle.words.proofs.Laws.{over-start, over-next}
 use Rattle.pages.specs.Answers.{scanOf, Fits}
-use Rattle.paper.specs.Calls.{bytesOf}
+use Rattle.paper.specs.Calls.{bytesIn}
 use Rattle.pages.specs.Refusals.{Page, Good}
 
 -- ---- the filler
@@ -90,8 +90,8 @@ length-payload p e h = length-take-le (wordAt p 0) (drop 2 p) (omega (arith, len
 
 -- ---- what an answer says
 
-pub scan-got : (g : Got (List ℕ)) (n : ℕ) → scanOf g ≡ Done n → (g ≡ got (bytesOf g) (endOf g)) × (length (bytesOf g) ≡ n)
-unfolding scanOf bytesOf
+pub scan-got : (g : Got (List ℕ)) (n : ℕ) → scanOf g ≡ Done n → (g ≡ got (bytesIn g) (endOf g)) × (length (bytesIn g) ≡ n)
+unfolding scanOf bytesIn
 scan-got (got xs m) n h = (refl, cc)
 scan-got (refused k p) n h = let z : _≡_ {A = ℕ} 0 1 = cc in absurd (omega arith)
 
@@ -107,8 +107,8 @@ unfolding scanOf Fits
 scan-fits (got xs m) n room h l = let e : length xs ≡ n = cc in omega arith
 scan-fits (refused k p) n room h l = let z : _≡_ {A = ℕ} 0 1 = cc in absurd (omega arith)
 
-pub fits-got : (g : Got (List ℕ)) (room : ℕ) → Fits g room → (g ≡ got (bytesOf g) (endOf g)) × (length (bytesOf g) ≤ room)
-unfolding bytesOf Fits
+pub fits-got : (g : Got (List ℕ)) (room : ℕ) → Fits g room → (g ≡ got (bytesIn g) (endOf g)) × (length (bytesIn g) ≤ room)
+unfolding bytesIn Fits
 fits-got (got xs m) room h = (refl, h)
 fits-got (refused k p) room h = absurd h
 
@@ -162,11 +162,11 @@ module _ (last : Bool) (p : List ℕ) (k : ℕ) where
           rw (page-got g) (ap Done (en ∙ sym (length-payload p l (page-short g))))
 
   pub page-room : (n : ℕ) → Done n ≡ scanOf (pageAt last p k) → n ≤ 508
-  unfolding bytesOf
+  unfolding bytesIn
   page-room n e =
       let g = scan-got (pageAt last p k) n (sym e) in
-      let ok = got-page (bytesOf (pageAt last p k)) (endOf (pageAt last p k)) (g .0) in
-      let l : length (payloadOf p) ≡ n = ap (λ (q : Got (List ℕ)). length (bytesOf q)) (sym (page-got ok)) ∙ g .1 in
+      let ok = got-page (bytesIn (pageAt last p k)) (endOf (pageAt last p k)) (g .0) in
+      let l : length (payloadOf p) ≡ n = ap (λ (q : Got (List ℕ)). length (bytesIn q)) (sym (page-got ok)) ∙ g .1 in
       omega (arith, page-short ok, length-take (wordAt p 0) (drop 2 p), min-le-left (wordAt p 0) (length (drop 2 p)))
 
 -- ---- the pages one after the other
@@ -187,10 +187,10 @@ scan-on (refused k p) h t n e f = let z : _≡_ {A = ℕ} 0 1 = cc in absurd (om
 record Joined (g h : Got (List ℕ)) (room : ℕ) : Type 0 where
   first : Fits g room
   second : Fits h room
-  both : bytesOf (joined g h) ≡ bytesOf g ++ bytesOf h
+  both : bytesIn (joined g h) ≡ bytesIn g ++ bytesIn h
 
 fits-joined : (g h : Got (List ℕ)) (room : ℕ) → Fits (joined g h) room → Joined g h room
-unfolding Fits bytesOf
+unfolding Fits bytesIn
 fits-joined (got xs a) (got ys b) room f =
     let l : length xs + length ys ≤ room = rw length-append at f in
     record { first = omega arith; second = omega arith; both = refl }
@@ -228,7 +228,7 @@ module _ (file : List ℕ) (P : ℕ) where
   turn-off k t w p h ep e f =
       let g = payloadTo file P k in
       let r = scan-refused (pageAt (eqb (k + 1) P) (pageIn file k) k) w (sym (rw ep at f)) in
-      sym (ap scanOf (off k (w .number) (w .place) (bytesOf g) (endOf g) h (scan-got g t e .0) r))
+      sym (ap scanOf (off k (w .number) (w .place) (bytesIn g) (endOf g) h (scan-got g t e .0) r))
 
   fits-before : (k d room : ℕ) → Fits (payloadTo file P (k + d)) room → Fits (payloadTo file P k) room
   fits-before k zero room h = rw add-zero at h
@@ -244,7 +244,7 @@ module _ (file : List ℕ) (P : ℕ) where
   within n room f k h =
       let g = pageAt (eqb (k + 1) P) (pageIn file k) k in
       let j = fits-joined (payloadTo file P k) g room (rw (payload-more k) at (fits-to (k + 1) n room (omega arith) f)) in
-      got-page (eqb (k + 1) P) (pageIn file k) k (bytesOf g) (endOf g) (fits-got g room (j .second) .0)
+      got-page (eqb (k + 1) P) (pageIn file k) k (bytesIn g) (endOf g) (fits-got g room (j .second) .0)
 
   -- a turn of `unpack`: p is the page, and part what it holds
   module _ (k room : ℕ) (h : k < P) (f : Fits (payloadTo file P P) room) (p : List ℕ) (ep : p ≡ pageIn file k) where
@@ -252,21 +252,21 @@ module _ (file : List ℕ) (P : ℕ) where
     turn-short = rw ep (page-short (eqb (k + 1) P) (pageIn file k) k (within P room f k h))
 
     module _ (part : List ℕ) (ea : part ≡ payloadOf p) where
-      pub turn-more : bytesOf (payloadTo file P (k + 1)) ≡ bytesOf (payloadTo file P k) ++ part
-      unfolding bytesOf
+      pub turn-more : bytesIn (payloadTo file P (k + 1)) ≡ bytesIn (payloadTo file P k) ++ part
+      unfolding bytesIn
       turn-more =
           let e = page-got (eqb (k + 1) P) (pageIn file k) k (within P room f k h) in
           let j = fits-joined (payloadTo file P k) (pageAt (eqb (k + 1) P) (pageIn file k) k) room (rw (payload-more k) at (fits-to (k + 1) P room (omega arith) f)) in
-          ap bytesOf (payload-more k) ∙ j .both ∙ rw (e, ea, ep)
+          ap bytesIn (payload-more k) ∙ j .both ∙ rw (e, ea, ep)
 
-      pub turn-fits : length (bytesOf (payloadTo file P k)) + length part ≤ room
+      pub turn-fits : length (bytesIn (payloadTo file P k)) + length part ≤ room
       turn-fits =
-          omega (arith, fits-got (payloadTo file P (k + 1)) room (fits-to (k + 1) P room (omega arith) f) .1, ap length turn-more ∙ length-append (bytesOf (payloadTo file P k)) part)
+          omega (arith, fits-got (payloadTo file P (k + 1)) room (fits-to (k + 1) P room (omega arith) f) .1, ap length turn-more ∙ length-append (bytesIn (payloadTo file P k)) part)
 
-      pub turn-over : (out₀ out out′ : List ℕ) (at : ℕ) → room ≡ length out₀ → at ≡ length (bytesOf (payloadTo file P k)) → out ≡ over out₀ 0 (bytesOf (payloadTo file P k)) → out′ ≡ over out at part
-          → out′ ≡ over out₀ 0 (bytesOf (payloadTo file P (k + 1)))
+      pub turn-over : (out₀ out out′ : List ℕ) (at : ℕ) → room ≡ length out₀ → at ≡ length (bytesIn (payloadTo file P k)) → out ≡ over out₀ 0 (bytesIn (payloadTo file P k)) → out′ ≡ over out at part
+          → out′ ≡ over out₀ 0 (bytesIn (payloadTo file P (k + 1)))
       turn-over out₀ out out′ at er et eo eo′ =
-          eo′ ∙ rw (eo, turn-more) (over-next out₀ 0 (bytesOf (payloadTo file P k)) at part (omega arith) (omega (arith, turn-fits)))
+          eo′ ∙ rw (eo, turn-more) (over-next out₀ 0 (bytesIn (payloadTo file P k)) at part (omega arith) (omega (arith, turn-fits)))
 
 -- ---- the whole file
 
@@ -299,20 +299,20 @@ got-size file xs n e = go (sizeOk (length file)) refl
 -- a file that is accepted
 module _ (file : List ℕ) (room : ℕ) (f : Fits (unpacked file) room) where
   pub ready-size : sizeOk (length file) ≡ true
-  ready-size = got-size file (bytesOf (unpacked file)) (endOf (unpacked file)) (fits-got (unpacked file) room f .0)
+  ready-size = got-size file (bytesIn (unpacked file)) (endOf (unpacked file)) (fits-got (unpacked file) room f .0)
 
   pub ready : Fits (payloadTo file (length file / 512) (length file / 512)) room
   ready = rw (whole file ready-size) at f
 
   -- all pages are unpacked
-  pub unpack-law : (out₀ out : List ℕ) (k : ℕ) → k ≡ length file / 512 → out ≡ over out₀ 0 (bytesOf (payloadTo file (length file / 512) k))
-      → out ≡ bytesOf (unpacked file) ++ drop (length (bytesOf (unpacked file))) out₀
+  pub unpack-law : (out₀ out : List ℕ) (k : ℕ) → k ≡ length file / 512 → out ≡ over out₀ 0 (bytesIn (payloadTo file (length file / 512) k))
+      → out ≡ bytesIn (unpacked file) ++ drop (length (bytesIn (unpacked file))) out₀
   unpack-law out₀ out k e eo = eo ∙ rw (e, ← whole file ready-size, over-start)
 
-pub bytes-none : (file out : List ℕ) (P : ℕ) → out ≡ over out 0 (bytesOf (payloadTo file P 0))
-unfolding payloadTo bytesOf
+pub bytes-none : (file out : List ℕ) (P : ℕ) → out ≡ over out 0 (bytesIn (payloadTo file P 0))
+unfolding payloadTo bytesIn
 bytes-none file out P = sym (over-start out [])
 
-pub bytes-length : (file : List ℕ) (P : ℕ) → 0 ≡ length (bytesOf (payloadTo file P 0))
-unfolding payloadTo bytesOf
+pub bytes-length : (file : List ℕ) (P : ℕ) → 0 ≡ length (bytesIn (payloadTo file P 0))
+unfolding payloadTo bytesIn
 bytes-length file P = refl

@@ -5,7 +5,7 @@ ghost use Prim.Native.Nat.{_+_, _*_, _≤_, _<_};
 ghost use lib.ListN.{length, drop};
 ghost use Rattle.paper.specs.Pages.{wordAt, checkOf, pageOf, pagesFor, pieceOf, fileOf, pageIn, payloadOf, fillerOk, lengthOk, sizeOk, pageAt, payloadTo, unpacked};
 ghost use Rattle.pages.specs.Answers.{scanOf, Fits};
-ghost use Rattle.paper.specs.Calls.{bytesOf};
+ghost use Rattle.paper.specs.Calls.{bytesIn};
 use paper::Refusal;
 use paper::Reply;
 
@@ -193,7 +193,7 @@ pub fn scan(file: &[u8]) -> Reply
 // What a file that `scan` accepts holds, into out from its start.
 pub fn unpack(file: &[u8], out: &mut [u8])
     requires { ⌜ Fits (unpacked (now file)) (length (now out)) ⌝ }
-    ensures { λ _. ⌜ now (out .exit) ≡ bytesOf (unpacked (now (file .entry))) ++ drop (length (bytesOf (unpacked (now (file .entry))))) (now (out .entry)) ⌝ }
+    ensures { λ _. ⌜ now (out .exit) ≡ bytesIn (unpacked (now (file .entry))) ++ drop (length (bytesIn (unpacked (now (file .entry))))) (now (out .entry)) ⌝ }
 {
     let pages = file.len() / 512;
     let mut at: usize = 0;

@@ -46,14 +46,14 @@ unfoldable pub replyIn : ℕ → Got (List ℕ) → Reply
 replyIn room (got xs n) = cond (ltb room (length xs)) (refusal 12 0) (Done (length xs))
 replyIn room (refused k p) = refusal k p
 
-unfoldable pub bytesOf : Got (List ℕ) → List ℕ
-bytesOf (got xs n) = xs
-bytesOf (refused k p) = []
+unfoldable pub bytesIn : Got (List ℕ) → List ℕ
+bytesIn (got xs n) = xs
+bytesIn (refused k p) = []
 
 -- the contract of all three: `what` is the call's own, `old` and `new` are the buffer before and after
 pub record Wrote (what : Got (List ℕ)) (old : List ℕ) (r : Reply) (new : List ℕ) : Type 0 where
   pub reply : r ≡ replyIn (length old) what
-  pub buffer : new ≡ left r (bytesOf what) old
+  pub buffer : new ≡ left r (bytesIn what) old
 
 -- ---- run: records into one buffer, the LOOP table into another
 

@@ -10,7 +10,7 @@ use Rattle.paper.specs.Rule.{Rule}
 use Rattle.paper.specs.Grammar.{Got, got, refused, then, ruleOf, blocksIn}
 use Rattle.paper.specs.Plan.{planOf, planSize, endOf}
 use Rattle.paper.specs.Pages.{unpacked}
-use Rattle.paper.specs.Calls.{toRead, toCompile, bytesOf, Wrote}
+use Rattle.paper.specs.Calls.{toRead, toCompile, bytesIn, Wrote}
 use Rattle.paper.specs.declared.Refusal.{Refusal}
 use Rattle.paper.specs.declared.Reply.{Reply}
 use Rattle.paper.specs.declared.Reply.the-variants.{Done, Refused}
@@ -63,8 +63,8 @@ pub ready : {file buffer : List ℕ} {r : Reply} (n : ℕ) → Opened (toRead fi
 unfolding toRead toCompile
 ready {file} {buffer} n o e =
     let found = scan-got (toRead file) n (sym (o .reply) ∙ e) in
-    let bytes : take n buffer ≡ bytesOf (toRead file) = o .bytes n e in
-    let c = compiles (unpacked file) (bytesOf (toRead file)) (endOf (toRead file)) (found .0) in
+    let bytes : take n buffer ≡ bytesIn (toRead file) = o .bytes n e in
+    let c = compiles (unpacked file) (bytesIn (toRead file)) (endOf (toRead file)) (found .0) in
     let is : ruleOf (take n buffer) ≡ got (c .0) (endOf (toRead file)) = rw bytes (c .1) in
     let long : length (take n buffer) ≡ n = ap length bytes ∙ found .1 in
     let four : 4 ≤ n = omega (arith, rule-long (take n buffer) (c .0) _ is) in
@@ -87,5 +87,5 @@ module _ {file : List ℕ} {n : ℕ} {buffer : List ℕ} (d : Ready file n buffe
 
   pub compile-all : (old new : List ℕ) → total ≤ length old → ((r : Rule) (m : ℕ) → ruleOf (take n buffer) ≡ got r m → new ≡ over old 0 (planOf r (take n buffer)))
       → Wrote (toCompile file) old (Done total) new
-  unfolding bytesOf
+  unfolding bytesIn
   compile-all old new h w = wrote-all (toCompile file) old total compile-size new h (w (d .ruled .rule) (d .ruled .end) (d .ruled .is) ∙ rw (d .what))

@@ -10,7 +10,7 @@ use Rattle.words.specs.Words.{over}
 use Rattle.words.proofs.Laws.{over-start}
 use Rattle.paper.specs.Grammar.{Got, got, refused, readOf, ruleOf, longest}
 use Rattle.paper.specs.Pages.{fileOf, unpacked, pagesFor}
-use Rattle.paper.specs.Calls.{refusal, toRead, toWrite, replyIn, bytesOf, Wrote}
+use Rattle.paper.specs.Calls.{refusal, toRead, toWrite, replyIn, bytesIn, Wrote}
 use Rattle.paper.specs.declared.Refusal.{Refusal}
 use Rattle.paper.specs.declared.Read.the-variants as read
 use Rattle.paper.specs.declared.Reply.the-variants.{Done, Refused}
@@ -50,9 +50,9 @@ module _ (file : List ℕ) where
         let g = scan-got (unpacked file) n scanned in
         omega (arith, g .1, read-write file _ _ b (g .0) .most)
 
-    module _ (old buffer : List ℕ) (unpacks : buffer ≡ bytesOf (unpacked file) ++ drop (length (bytesOf (unpacked file))) old) where
-      part : take n buffer ≡ bytesOf (unpacked file)
-      part = rw (unpacks, ← scan-got (unpacked file) n scanned .1) (take-append-seam (bytesOf (unpacked file)) _)
+    module _ (old buffer : List ℕ) (unpacks : buffer ≡ bytesIn (unpacked file) ++ drop (length (bytesIn (unpacked file))) old) where
+      part : take n buffer ≡ bytesIn (unpacked file)
+      part = rw (unpacks, ← scan-got (unpacked file) n scanned .1) (take-append-seam (bytesIn (unpacked file)) _)
 
       pub opened-bad : (w : Refusal) → readOf (ruleOf (take n buffer)) ≡ read.Refused w → Opened (toRead file) (Refused w) buffer
       unfolding toRead
@@ -63,7 +63,7 @@ module _ (file : List ℕ) where
       good m e = rw (scan-got (unpacked file) n scanned .0) (rw (← part, read-got (ruleOf (take n buffer)) m e .1))
 
       pub opened-good : (m : ℕ) → Bytes file → readOf (ruleOf (take n buffer)) ≡ read.Next m → Opened (toRead file) (Done n) buffer
-      unfolding scanOf bytesOf
+      unfolding scanOf bytesIn
       opened-good m b e =
           let long : length (take n buffer) ≡ n = ap length part ∙ scan-got (unpacked file) n scanned .1 in
           record {
@@ -80,18 +80,18 @@ module _ (what : Got (List ℕ)) (old : List ℕ) where
 
   -- what has a size of n
   module _ (n : ℕ) (found : Done n ≡ scanOf what) where
-    sized : length (bytesOf what) ≡ n
+    sized : length (bytesIn what) ≡ n
     sized = scan-got what n (sym found) .1
 
     pub wrote-short : length old < n → Wrote what old (refusal 12 0) old
     unfolding replyIn
-    wrote-short h = record { reply = rw (scan-got what n (sym found) .0) (rw (lt-ltb (length old) (length (bytesOf what)) (omega (arith, sized)))); buffer = refl }
+    wrote-short h = record { reply = rw (scan-got what n (sym found) .0) (rw (lt-ltb (length old) (length (bytesIn what)) (omega (arith, sized)))); buffer = refl }
 
-    pub wrote-all : (new : List ℕ) → n ≤ length old → new ≡ over old 0 (bytesOf what) → Wrote what old (Done n) new
+    pub wrote-all : (new : List ℕ) → n ≤ length old → new ≡ over old 0 (bytesIn what) → Wrote what old (Done n) new
     unfolding replyIn
     wrote-all new h e = record {
-      reply = rw (scan-got what n (sym found) .0) (rw (le-ltb (length old) (length (bytesOf what)) (omega (arith, sized))) (ap Done (sym sized)));
-      buffer = e ∙ over-start old (bytesOf what);
+      reply = rw (scan-got what n (sym found) .0) (rw (le-ltb (length old) (length (bytesIn what)) (omega (arith, sized))) (ap Done (sym sized)));
+      buffer = e ∙ over-start old (bytesIn what);
     }
 
 -- ---- writing a rule
@@ -115,6 +115,6 @@ module _ (s : List ℕ) where
 
     pub write-all : (m : ℕ) → readOf (ruleOf s) ≡ read.Next m → (old new : List ℕ) → pagesFor (length s) * 512 ≤ length old
         → new ≡ fileOf s ++ drop (pagesFor (length s) * 512) old → Wrote (toWrite s) old (Done (pagesFor (length s) * 512)) new
-    unfolding bytesOf
+    unfolding bytesIn
     write-all m e old new h w =
         wrote-all (toWrite s) old _ (write-size m e) new h (w ∙ rw (write-good m e, ← length-file s) (sym (over-start old (fileOf s))))

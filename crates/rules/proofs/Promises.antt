@@ -14,7 +14,7 @@ use Rattle.paper.specs.Rule.{Rule}
 use Rattle.paper.specs.Grammar.{Got, got, refused, then, readOf, ruleOf, longest}
 use Rattle.paper.specs.Plan.{endOf}
 use Rattle.paper.specs.Pages.{fileOf, unpacked}
-use Rattle.paper.specs.Calls.{refusal, left, toRead, toWrite, replyIn, bytesOf, Wrote}
+use Rattle.paper.specs.Calls.{refusal, left, toRead, toWrite, replyIn, bytesIn, Wrote}
 use Rattle.paper.specs.declared.Refusal.{Refusal}
 use Rattle.paper.specs.declared.Reply.{Reply}
 use Rattle.paper.specs.declared.Reply.the-variants.{Done, Refused}
@@ -31,7 +31,7 @@ module _ (what : Got (List ℕ)) (old : List ℕ) where
   pub one-outcome : (r r′ : Reply) (new new′ : List ℕ) → Wrote what old r new → Wrote what old r′ new′ → (r ≡ r′) × (new ≡ new′)
   one-outcome r r′ new new′ w w′ =
       let e : r ≡ r′ = w .reply ∙ sym (w′ .reply) in
-      (e, w .buffer ∙ ap (λ (x : Reply). left x (bytesOf what) old) e ∙ sym (w′ .buffer))
+      (e, w .buffer ∙ ap (λ (x : Reply). left x (bytesIn what) old) e ∙ sym (w′ .buffer))
 
   -- a refusal changes no byte
   pub refusal-stays : (w : Refusal) (new : List ℕ) → Wrote what old (Refused w) new → new ≡ old
@@ -39,8 +39,8 @@ module _ (what : Got (List ℕ)) (old : List ℕ) where
 
   -- where n bytes are written they are the call's own, and what lies beyond them stays
   module _ (n : ℕ) (new : List ℕ) (h : Wrote what old (Done n) new) where
-    found : (g : Got (List ℕ)) → Done n ≡ replyIn (length old) g → (g ≡ got (bytesOf g) (endOf g)) × (length (bytesOf g) ≡ n)
-    unfolding replyIn bytesOf
+    found : (g : Got (List ℕ)) → Done n ≡ replyIn (length old) g → (g ≡ got (bytesIn g) (endOf g)) × (length (bytesIn g) ≡ n)
+    unfolding replyIn bytesIn
     found (got xs m) e = go (ltb (length old) (length xs)) e
       where
         go : (b : Bool) → Done n ≡ cond b (refusal 12 0) (Done (length xs)) → (got xs m ≡ got xs m) × (length xs ≡ n)
@@ -48,18 +48,18 @@ module _ (what : Got (List ℕ)) (old : List ℕ) where
         go false q = (refl, cc)
     found (refused k p) e = let z : _≡_ {A = ℕ} 0 1 = cc in absurd (omega arith)
 
-    pub done-what : what ≡ got (bytesOf what) (endOf what)
+    pub done-what : what ≡ got (bytesIn what) (endOf what)
     done-what = found what (h .reply) .0
 
-    pub done-bytes : take n new ≡ bytesOf what
-    done-bytes = rw (h .buffer, ← found what (h .reply) .1) (take-append-seam (bytesOf what) _)
+    pub done-bytes : take n new ≡ bytesIn what
+    done-bytes = rw (h .buffer, ← found what (h .reply) .1) (take-append-seam (bytesIn what) _)
 
     pub done-beyond : drop n new ≡ drop n old
-    done-beyond = rw (h .buffer, ← found what (h .reply) .1) (drop-append-seam (bytesOf what) _)
+    done-beyond = rw (h .buffer, ← found what (h .reply) .1) (drop-append-seam (bytesIn what) _)
 
 -- with room for all bytes, all are written
 all-written : (what : Got (List ℕ)) (xs : List ℕ) (m : ℕ) (old : List ℕ) (r : Reply) (new : List ℕ) → what ≡ got xs m → length xs ≤ length old → Wrote what old r new → (r ≡ Done (length xs)) × (take (length xs) new ≡ xs)
-unfolding replyIn bytesOf
+unfolding replyIn bytesIn
 all-written what xs m old r new e l w =
     let d : r ≡ Done (length xs) = w .reply ∙ rw (e, le-ltb (length old) (length xs) l) in
     (d, rw (w .buffer, d, e) (take-append-seam xs _))
@@ -155,7 +155,7 @@ module _ (s out : List ℕ) (n : ℕ) (out′ : List ℕ) (w : Wrote (toWrite s)
   pub written-read : (b : List ℕ) (r : Reply) (b′ : List ℕ) → length s ≤ length b → Wrote (toRead (take n out′)) b r b′ → (r ≡ Done (length s)) × (take (length s) b′ ≡ s)
   unfolding toRead
   written-read b r b′ l h =
-      let k = kept (bytesOf (toWrite s)) (endOf (toWrite s)) (done-what (toWrite s) out n out′ w) in
+      let k = kept (bytesIn (toWrite s)) (endOf (toWrite s)) (done-what (toWrite s) out n out′ w) in
       let f : take n out′ ≡ fileOf s = done-bytes (toWrite s) out n out′ w ∙ k .bytes in
       all-written (toRead (take n out′)) s (endOf (toWrite s)) b r b′ (rw (f, write-read s (omega (arith, rule-header s (k .rule) (endOf (toWrite s)) (k .is))) (k .brief), k .is)) l h
 
@@ -164,7 +164,7 @@ module _ (file out : List ℕ) (n : ℕ) (out′ : List ℕ) (bytes : Bytes file
   pub read-written : (b : List ℕ) (r : Reply) (b′ : List ℕ) → length file ≤ length b → Wrote (toWrite (take n out′)) b r b′ → (r ≡ Done (length file)) × (take (length file) b′ ≡ file)
   unfolding toRead readOf
   read-written b r b′ l h =
-      let xs = bytesOf (toRead file) in
+      let xs = bytesIn (toRead file) in
       let m = endOf (toRead file) in
       let o = through (unpacked file) _ xs m (done-what (toRead file) out n out′ w) in
       let i = through (ruleOf (o .first)) _ xs m (o .then-was) in

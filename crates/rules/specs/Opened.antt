@@ -4,7 +4,7 @@ use mathlib.Core.Path.{_≡_}
 use mathlib.Core.List.{List}
 use lib.ListN.{take}
 use Rattle.paper.specs.Grammar.{Got, longest}
-use Rattle.paper.specs.Calls.{bytesOf}
+use Rattle.paper.specs.Calls.{bytesIn}
 use Rattle.paper.specs.declared.Reply.{Reply}
 use Rattle.paper.specs.declared.Reply.the-variants.{Done}
 use Rattle.pages.specs.Answers.{scanOf}
@@ -12,4 +12,4 @@ use Rattle.pages.specs.Answers.{scanOf}
 pub record Opened (what : Got (List ℕ)) (r : Reply) (buffer : List ℕ) : Type 0 where
   pub reply : r ≡ scanOf what
   pub short : (n : ℕ) → r ≡ Done n → n ≤ longest
-  pub bytes : (n : ℕ) → r ≡ Done n → take n buffer ≡ bytesOf what
+  pub bytes : (n : ℕ) → r ≡ Done n → take n buffer ≡ bytesIn what

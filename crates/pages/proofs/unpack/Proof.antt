@@ -6,14 +6,14 @@ use borrow.Author.Needs.{needs}
 use lib.ListN.{length, length-append}
 use Rattle.paper.specs.Pages.{payloadTo}
 use Rattle.words.specs.Words.{over}
-use Rattle.paper.specs.Calls.{bytesOf}
+use Rattle.paper.specs.Calls.{bytesIn}
 use Rattle.pages.proofs.Reading.{size-is, ready-size, ready, turn-short, turn-fits, turn-more, turn-over, unpack-law, bytes-none, bytes-length}
 use Rattle.pages.proofs.unpack.Statement.{statement}
 use Rattle.pages.proofs.unpack.Tie as tie
 
 abbrev Inv-loop : tie.InvT-loop
 Inv-loop file out₀ pages at₀ k₀ out at k =
-    (k ≤ pages) × ((at ≡ length (bytesOf (payloadTo file pages k))) × ((length out ≡ length out₀) × (out ≡ over out₀ 0 (bytesOf (payloadTo file pages k)))))
+    (k ≤ pages) × ((at ≡ length (bytesIn (payloadTo file pages k))) × ((length out ≡ length out₀) × (out ≡ over out₀ 0 (bytesIn (payloadTo file pages k)))))
 
 abbrev μ-loop : tie.MeasureT-loop
 μ-loop file out₀ pages at₀ k₀ out at k = pages - k
@@ -70,7 +70,7 @@ loop-again c =
     let m = turn-more file P (l .k) (length out) (omega arith) f (at-page .page-in .result .now) (at-page .page-in .ensures .0) part (at-part .payload .ensures) in (
       omega arith,
       (
-        omega (arith, ap length m ∙ length-append (bytesOf (payloadTo file P (l .k))) part),
+        omega (arith, ap length m ∙ length-append (bytesIn (payloadTo file P (l .k))) part),
         (
           at-copy .copy-bytes-at .kept .0 ∙ l .inv .1 .1 .0,
           turn-over file P (l .k) (length out) (omega arith) f (at-page .page-in .result .now) (at-page .page-in .ensures .0) part (at-part .payload .ensures) out (l .out) (at-copy .copy-bytes-at .last .0) (l .at) refl (l .inv .1 .0) (l .inv .1 .1 .1) (at-copy .copy-bytes-at .ensures),
