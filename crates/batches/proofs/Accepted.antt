@@ -8,12 +8,12 @@ use lib.Seq.{getD-take}
 use Rattle.paper.specs.Rule.{End, Goto, Jump, Stop, If, Rule}
 use Rattle.paper.specs.Grammar.{got, longest}
 use Rattle.paper.specs.Columns.{flowOf, LC}
-use Rattle.paper.specs.Plan.{carried, planned}
+use Rattle.paper.specs.Plan.{bitOf, carried, planned}
 use Rattle.paper.specs.Pages.{wordAt}
 use Rattle.paper.specs.Batch.{countTo}
 use Rattle.paper.specs.Calls.{columns}
 use Rattle.paper.proofs.Counts.{count-le}
-use Rattle.paper.proofs.Masks.{bitOf, mask-count}
+use Rattle.paper.proofs.Masks.{mask-count}
 use Rattle.plans.specs.Accepted.{ruleIn, Accepted}
 use Rattle.plans.proofs.Accepted.{is-plan}
 use Rattle.plans.proofs.Proper.{proper}

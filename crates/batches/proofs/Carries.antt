@@ -17,7 +17,8 @@ use Rattle.paper.proofs.Columns.{shared, entry-in-J}
 use Rattle.columns.specs.OnPlan.{planWalk}
 use Rattle.columns.specs.Proper.{Proper}
 use Rattle.columns.specs.Row.{Sound}
-use Rattle.columns.proofs.Alike.{Alike, alike-less}
+use Rattle.columns.specs.Alike.{Alike}
+use Rattle.columns.proofs.Alike.{alike-less}
 use Rattle.columns.proofs.Walks.{Rounds, both-jumped, both-finished, walk-alike}
 use Rattle.columns.proofs.Rows.{roundOf, advance-on, after-add, after-done, after-sound}
 use Rattle.rounds.specs.Round.{endedAs}

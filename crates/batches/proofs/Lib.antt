@@ -11,5 +11,9 @@ pub mod Starts
 pub mod Runs
 pub mod Accepted
 pub mod Promises
+pub mod FileToRecord
 pub mod Onward
 pub mod Replies
+pub mod Exactly
+pub mod Searches
+pub mod Found

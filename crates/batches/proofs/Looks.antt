@@ -14,13 +14,14 @@ use Rattle.words.proofs.Laws.{over-start, length-over}
 use Rattle.paper.specs.Values.{Val}
 use Rattle.paper.specs.Rule.{Rule}
 use Rattle.paper.specs.Columns.{flowOf, LC}
+use Rattle.paper.specs.Plan.{bitOf}
 use Rattle.paper.specs.Direct.{State}
 use Rattle.paper.specs.Batch.{Word, recordSize, recordOf, countTo, columnsOf}
-use Rattle.paper.proofs.Masks.{bitOf, read-back, mask-count}
+use Rattle.paper.proofs.Masks.{read-back, mask-count}
 use Rattle.paper.proofs.Counts.{columns-length, count-le, count-before}
 use Rattle.columns.specs.OnPlan.{spread}
 use Rattle.columns.specs.Row.{Sound}
-use Rattle.columns.proofs.Alike.{Alike}
+use Rattle.columns.specs.Alike.{Alike}
 use Rattle.columns.proofs.Sets.{columns-at, columns-same, spread-at, spread-length}
 use Rattle.batches.specs.Layout.{width, lineIn, Known}
 use Rattle.batches.specs.Table.{Placed}

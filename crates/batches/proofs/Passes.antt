@@ -10,7 +10,7 @@ use lib.Seq.{take-at, drop-at, drop-drop}
 use lib.Dec.{eqb}
 use borrow.Author.Tests.{eqb-true, eq-eqb, ne-eqb}
 use Rattle.words.specs.Words.{over}
-use Rattle.words.proofs.Laws.{take-over, drop-over}
+use Rattle.words.proofs.Laws.{drop-over}
 use Rattle.paper.specs.Rule.{Rule}
 use Rattle.paper.specs.Direct.{State}
 use Rattle.paper.specs.Batch.{Word, goesOn, recordSize, recordOf, recordsOf, linesFrom, liveOf, mostOf}

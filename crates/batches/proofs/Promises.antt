@@ -23,10 +23,9 @@ use Rattle.paper.specs.declared.Reply.the-variants.{Done, Refused}
 use Rattle.columns.specs.Proper.{Proper}
 use Rattle.columns.specs.Row.{Sound}
 use Rattle.columns.proofs.Rows.{Grown, after-add, after-done, after-grown, run-sound}
-use Rattle.batches.specs.Table.{All}
 use Rattle.batches.proofs.Buffers.{part-mid}
 use Rattle.batches.proofs.Looks.{record-length}
-use Rattle.batches.proofs.Rows.{all-left, all-map, map-append, records-append, records-length}
+use Rattle.batches.proofs.Rows.{all-map, map-append, records-append, records-length}
 use Rattle.batches.proofs.Starts.{starts-length, starts-sound}
 use Rattle.batches.proofs.Turns.{step}
 use Rattle.batches.proofs.Accepted.{is-proper}
@@ -71,25 +70,24 @@ pub record Called (plan : List ℕ) (r : Rule) (args : List Val) (N q k : ℕ) (
 
 -- ---- a row among the rows
 
-record Split (ss : List State) (k : ℕ) (s : State) : Type 0 where
-  first : List State
-  rest : List State
-  is : ss ≡ first ++ s ∷ rest
-  many : length first ≡ k
+-- the rows before row k, row k, and the rows after it
+pub record Split (r : Rule) (values : List Val) (rows k : ℕ) : Type 0 where
+  pub rest : List State
+  pub is : startsOf r values rows ≡ startsOf r values k ++ startAt r values k ∷ rest
 
-split-snoc : (ss : List State) (k : ℕ) (s x : State) → Split ss k s → Split (ss ++ x ∷ []) k s
-split-snoc ss k s x c = record { first = c .first; rest = c .rest ++ x ∷ []; is = rw (c .is) (append-assoc (c .first) (s ∷ c .rest) (x ∷ [])); many = c .many }
-
-starts-split : (r : Rule) (values : List Val) (rows k : ℕ) → k < rows → Split (startsOf r values rows) k (startAt r values k)
+pub starts-split : (r : Rule) (values : List Val) (rows k : ℕ) → k < rows → Split r values rows k
 unfolding startsOf
 starts-split r values zero k h = absurd (omega arith)
 starts-split r values (suc n) k h = go (ltb k n) refl (starts-split r values n k)
   where
-    go : (b : Bool) → ltb k n ≡ b → (k < n → Split (startsOf r values n) k (startAt r values k)) → Split (startsOf r values n ++ startAt r values n ∷ []) k (startAt r values k)
-    go true e c = split-snoc (startsOf r values n) k (startAt r values k) (startAt r values n) (c (ltb-true k n e))
+    go : (b : Bool) → ltb k n ≡ b → (k < n → Split r values n k) → Split r values (suc n) k
+    go true e c =
+        let d = c (ltb-true k n e) in
+        let x : List State = startAt r values n ∷ [] in
+        record { rest = d .rest ++ x; is = rw (d .is) (append-assoc (startsOf r values k) (startAt r values k ∷ d .rest) x) }
     go false e c =
         let z : n ≡ k = omega (arith, ltb-false k n e) in
-        record { first = startsOf r values n; rest = []; is = ap (λ (m : ℕ). startsOf r values n ++ startAt r values m ∷ []) z; many = starts-length r values n ∙ z }
+        record { rest = []; is = ap (λ (m : ℕ). startsOf r values m ++ startAt r values m ∷ []) z }
 
 module _ (r : Rule) (ok : Proper r) where
   args-few : (values : List Val) (k : ℕ) → length (take (r .arguments) (drop (k * r .arguments) values)) ≤ r .variables
@@ -102,13 +100,13 @@ module _ (r : Rule) (ok : Proper r) where
   alone values rows N q k tail h =
       let g : State → State = after r q N in
       let s : State = startAt r values k in
-      let c : Split (startsOf r values rows) k s = starts-split r values rows k h in
-      let before = all-left (Sound r q 0) (c .first) (s ∷ c .rest) (rw (c .is) at (starts-sound r values ok q rows)) in
-      let sound = all-map (Sound r q 0) (Sound r q (0 + N)) g (step r q ok N .sound 0) (c .first) before in
-      let e : recordsOf q (map g (startsOf r values rows)) ++ tail ≡ recordsOf q (map g (c .first)) ++ (recordOf q (g s) ++ (recordsOf q (map g (c .rest)) ++ tail)) =
+      let c : Split r values rows k = starts-split r values rows k h in
+      let before : List State = startsOf r values k in
+      let sound = all-map (Sound r q 0) (Sound r q (0 + N)) g (step r q ok N .sound 0) before (starts-sound r values ok q k) in
+      let e : recordsOf q (map g (startsOf r values rows)) ++ tail ≡ recordsOf q (map g before) ++ (recordOf q (g s) ++ (recordsOf q (map g (c .rest)) ++ tail)) =
       ap (λ (l : List State). recordsOf q (map g l) ++ tail) (c .is) ∙ rw (map-append, records-append) (simp append-assoc) in
-      rw e (part-mid (recordsOf q (map g (c .first))) (recordOf q (g s)) (recordsOf q (map g (c .rest)) ++ tail) (k * recordSize q) (recordSize q)
-      (records-length r q (0 + N) (map g (c .first)) sound ∙ rw (length-map, c .many)) (record-length r q N (g s) (run-sound r q ok (take (r .arguments) (drop (k * r .arguments) values)) (args-few values k) N)))
+      rw e (part-mid (recordsOf q (map g before)) (recordOf q (g s)) (recordsOf q (map g (c .rest)) ++ tail) (k * recordSize q) (recordSize q)
+      (records-length r q (0 + N) (map g before) sound ∙ rw (length-map, starts-length r values k)) (record-length r q N (g s) (run-sound r q ok (take (r .arguments) (drop (k * r .arguments) values)) (args-few values k) N)))
 
   its-own : (values args : List Val) (rows B Q N q k : ℕ) (results tail : List Word) → results ≡ recordsOf Q (map (after r Q B) (startsOf r values rows)) ++ tail
       → B ≡ N → Q ≡ q → take (r .arguments) (drop (k * r .arguments) values) ≡ args → k < rows → recordAt q k results ≡ recordOf q (after r q N (start r args))

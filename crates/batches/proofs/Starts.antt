@@ -12,12 +12,12 @@ use Rattle.words.proofs.Laws.{over-start}
 use Rattle.paper.specs.Values.{Val}
 use Rattle.paper.specs.Rule.{Rule}
 use Rattle.paper.specs.Columns.{flowOf, LC}
+use Rattle.paper.specs.Plan.{bitOf}
 use Rattle.paper.specs.Direct.{State, start}
 use Rattle.paper.specs.Batch.{Word, recordSize, recordOf, recordsOf, linesFrom, liveOf, mostOf, startAt, startsOf, columnsOf}
-use Rattle.paper.proofs.Masks.{bitOf}
 use Rattle.columns.specs.Proper.{Proper}
 use Rattle.columns.specs.Row.{Sound}
-use Rattle.columns.proofs.Alike.{Alike}
+use Rattle.columns.specs.Alike.{Alike}
 use Rattle.columns.proofs.Rows.{start-sound}
 use Rattle.batches.specs.Layout.{width, lineIn, linesIn, Known}
 use Rattle.batches.specs.Table.{All}

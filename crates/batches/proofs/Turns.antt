@@ -12,10 +12,10 @@ use Rattle.words.specs.Words.{over}
 use Rattle.paper.specs.Values.{Val}
 use Rattle.paper.specs.Rule.{Rule}
 use Rattle.paper.specs.Columns.{flowOf, LC}
+use Rattle.paper.specs.Plan.{bitOf}
 use Rattle.paper.specs.Direct.{State, Round, jumped, finished, joined, advance, after}
 use Rattle.paper.specs.Batch.{Word, goesOn, recordSize, recordOf, countTo, lineSize, columnsOf}
 use Rattle.paper.specs.Calls.{mostBudget}
-use Rattle.paper.proofs.Masks.{bitOf}
 use Rattle.paper.proofs.Counts.{count-le}
 use Rattle.columns.specs.Proper.{Proper}
 use Rattle.columns.specs.Row.{Sound}

@@ -1,4 +1,6 @@
 pub mod Limits
 pub mod Layout
 pub mod Table
+pub mod DirectRun
 pub mod Runs
+pub mod Replies

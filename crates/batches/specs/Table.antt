@@ -13,7 +13,7 @@ use Rattle.paper.specs.Direct.{State, unfinished}
 use Rattle.paper.specs.Batch.{Word, recordSize, recordOf, recordsOf, goesOn, liveOf, mostOf}
 use Rattle.paper.specs.Calls.{mostBudget}
 use Rattle.columns.specs.Row.{Sound}
-use Rattle.columns.proofs.Alike.{Alike}
+use Rattle.columns.specs.Alike.{Alike}
 use Rattle.batches.specs.Layout.{width, lineIn, linesIn, Known}
 use Rattle.batches.specs.declared.layout.Layout.{Layout}
 use Rattle.batches.specs.declared.layout.Row.{Row}

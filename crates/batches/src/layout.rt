@@ -8,7 +8,7 @@ ghost use lib.Signed.{nonNeg};
 ghost use lib.ListN.{length, getD, take, drop, replicate};
 ghost use Rattle.words.specs.Words.{over};
 ghost use Rattle.paper.specs.Batch.{recordSize, lineSize, countTo, columnsOf};
-ghost use Rattle.paper.proofs.Masks.{bitOf};
+ghost use Rattle.paper.specs.Plan.{bitOf};
 ghost use Rattle.columns.specs.OnPlan.{spread};
 ghost use Rattle.batches.specs.Table.{Placed, Looked};
 

@@ -7,8 +7,8 @@ use native.Mathlib.Omega.{arith}
 use Rattle.paper.specs.Columns.{some, grown}
 use Rattle.paper.specs.Batch.{countTo}
 use Rattle.paper.proofs.Tests.{clash, less-or, and-both, and-parts, some-in, some-out}
-use Rattle.paper.proofs.Counts.{Within, count-le, count-mono, count-less}
-use Rattle.paper.proofs.Smallest.{Closed, Smallest}
+use Rattle.paper.specs.Smallest.{Within, Closed, Smallest}
+use Rattle.paper.proofs.Counts.{count-le, count-mono, count-less}
 use Rattle.paper.proofs.Reached.{grown-case, grown-mono, still-closed}
 use Rattle.closure.specs.Sweep.{Sweep}
 

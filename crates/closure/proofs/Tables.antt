@@ -5,7 +5,8 @@ use mathlib.Core.List.{List}
 use Prim.Native.Nat.{ℕ, _<_}
 use Rattle.paper.specs.Columns.{Flow, some, outputs, passes, among, inputsOf, outputsOf}
 use Rattle.paper.proofs.Tests.{some-same}
-use Rattle.paper.proofs.Smallest.{Smallest, smallest-only, alike}
+use Rattle.paper.specs.Smallest.{Smallest}
+use Rattle.paper.proofs.Smallest.{smallest-only, alike}
 use Rattle.paper.proofs.Reached.{closure-smallest}
 use Rattle.closure.specs.Tables.{edgeIn, variableIn, passing, Tables}
 

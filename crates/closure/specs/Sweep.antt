@@ -4,11 +4,7 @@ use mathlib.Core.Bool.{Bool, true, false}
 use Prim.Native.Nat.{ℕ, _≤_, _<_}
 use Rattle.paper.specs.Columns.{grown}
 use Rattle.paper.specs.Batch.{countTo}
-use Rattle.paper.proofs.Counts.{Within}
-
--- the part of `Closed` that speaks of edges
-abbrev pub Back : ℕ → (ℕ → ℕ → Bool) → (ℕ → Bool) → Type 0
-Back n edge u = (b t : ℕ) → b < n → t < n → edge b t ≡ true → u t ≡ true → u b ≡ true
+use Rattle.paper.specs.Smallest.{Within, Back}
 
 pub record Sweep (n : ℕ) (edge : ℕ → ℕ → Bool) (old : ℕ → Bool) (b : ℕ) (new : ℕ → Bool) (more : Bool) : Type 0 where
   pub keeps : Within n old new

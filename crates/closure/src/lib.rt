@@ -5,10 +5,9 @@ ghost use mathlib.Core.Bool.{not, cond, _&&_, _||_};
 ghost use Prim.Native.Nat.{ℕ, _+_, _≤_, _<_};
 ghost use lib.ListN.{getD};
 ghost use Rattle.paper.specs.Columns.{Flow, some, among, inputsOf, outputsOf};
-ghost use Rattle.paper.specs.Plan.{maskOf};
+ghost use Rattle.paper.specs.Smallest.{Smallest};
+ghost use Rattle.paper.specs.Plan.{maskOf, bitOf};
 ghost use Rattle.paper.specs.Batch.{countTo};
-ghost use Rattle.paper.proofs.Smallest.{Smallest};
-ghost use Rattle.paper.proofs.Masks.{bitOf};
 ghost use Rattle.closure.specs.Tables.{edgeIn, variableIn, passing, Tables};
 ghost use Rattle.closure.specs.Sweep.{Sweep};
 

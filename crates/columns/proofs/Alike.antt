@@ -1,4 +1,4 @@
--- Environments that agree on a set of the variables below v, and what statements make of them. Assumes nothing.
+-- What statements make of environments that agree on a set of the variables below v. Assumes nothing.
 use Prim.Native.Nat.{ℕ, _≤_, _<_}
 use mathlib.Core.Path.{_≡_, refl, sym, _∙_}
 use mathlib.Core.Bool.{Bool, true, false, cond, not, _&&_, _||_, or-assoc, or-false}
@@ -16,13 +16,8 @@ use Rattle.paper.specs.Meaning.{eval}
 use Rattle.paper.specs.Direct.{Way, on, ended, onward, with, step, steps, faulted, quotaFull}
 use Rattle.paper.specs.Columns.{reads, readFirst, sets, endLooks}
 use Rattle.paper.proofs.Tests.{or-left, or-right, or-case}
+use Rattle.columns.specs.Alike.{Alike}
 use Rattle.columns.proofs.Reading.{Agree, eval-alike}
-
--- both have at least v values, and the same at each variable below v that the set holds
-pub record Alike (v : ℕ) (A : ℕ → Bool) (x y : List Val) : Type 0 where
-  pub left : v ≤ length x
-  pub right : v ≤ length y
-  pub same : (k : ℕ) → k < v → A k ≡ true → getD x k (pos 0) ≡ getD y k (pos 0)
 
 -- two ways through a block: both ended alike, or both go on with the same labels and such environments
 pub data Ways (v : ℕ) (A : ℕ → Bool) (a b : Way) : Type 0 where

@@ -1,4 +1,4 @@
--- Every value of a row lies in the range, if its arguments and the rule's constants do. Assumes nothing.
+-- Every value of a row lies in the range, if its arguments and the rule's constants do: those of every accepted rule do, as crate plans shows. Assumes nothing.
 use Prim.Native.Nat.{ℕ, zero, suc, _-_}
 use mathlib.Core.Path.{_≡_, refl}
 use mathlib.Core.Bool.{Bool, true, false, cond, _||_}
@@ -13,7 +13,8 @@ use Rattle.paper.specs.Rule.{Operator, Add, Subtract, Multiply, Divide, Remaind
 use Rattle.paper.specs.Meaning.{eval, holds, applied}
 use Rattle.paper.specs.Direct.{State, Round, jumped, finished, start, joined, advance, after}
 use Rattle.paper.specs.Batch.{goesOn}
-use Rattle.columns.specs.Range.{InRange, AllInRange, Bounded, worked, Constants, Ranged}
+use Rattle.columns.specs.Range.{AllInRange, Bounded, worked, Constants, Ranged}
+use Rattle.paper.specs.Limits.{InRange}
 use Rattle.columns.proofs.Keeping.{KeptRound, walk-kept}
 use Rattle.columns.proofs.Rows.{roundOf}
 

@@ -3,19 +3,17 @@ use Prim.Native.Nat.{ℕ, zero, suc, _+_, _≤_, _<_}
 use mathlib.Core.Path.{_≡_, refl, sym, ap, _∙_}
 use mathlib.Core.Bool.{Bool, true, false, cond}
 use mathlib.Core.Logic.{⊎-elim}
-use mathlib.Core.List.{List, [], _∷_, _++_, append-nil}
+use mathlib.Core.List.{List, [], _∷_, _++_}
 use native.Mathlib.Omega.{arith}
-use native.Mathlib.Nat.{add-zero}
-use native.Mathlib.Numerals.{add-one}
 use lib.IntN.{pos}
-use lib.ListN.{length, getD, set, take, length-set, List·getD-append}
-use lib.Seq.{getD-set-same, getD-set-other, getD-at, take-suc, take-length}
+use lib.ListN.{length, getD, set, length-set, List·getD-append}
+use lib.Seq.{getD-set-same, getD-set-other, getD-at}
 use Rattle.paper.specs.Values.{Val}
 use Rattle.paper.specs.Batch.{columnsOf, countTo}
 use Rattle.paper.proofs.Tests.{last-or}
 use Rattle.paper.proofs.Counts.{count-before, columns-length}
 use Rattle.columns.specs.OnPlan.{kept, spread}
-use Rattle.columns.proofs.Alike.{Alike}
+use Rattle.columns.specs.Alike.{Alike}
 
 module _ (f : ℕ → Bool) where
   -- ---- what is not in the set, put to 0
@@ -98,19 +96,6 @@ module _ (f : ℕ → Bool) where
         before : (t : Bool) (z : Val) → k < v → getD (cond t (set (spread v f cols) v z) (spread v f cols)) k (pos 0) ≡ getD (spread v f cols) k (pos 0)
         before true z l = getD-set-other (spread v f cols) v k z (pos 0) (λ e. omega arith)
         before false z l = refl
-
-    -- an environment whose variables hold the columns has these columns
-    columns-are : (v : ℕ) (env : List Val) → countTo v f ≤ length cols → ((k : ℕ) → k < v → f k ≡ true → getD env k (pos 0) ≡ getD cols (countTo k f) (pos 0)) → columnsOf v f env ≡ take (countTo v f) cols
-    unfolding columnsOf countTo
-    columns-are zero env s h = refl
-    columns-are (suc v) env s h = go (f v) refl (columns-are v env (omega arith) (λ k l p. h k (omega arith) p))
-      where
-        go : (t : Bool) → f v ≡ t → columnsOf v f env ≡ take (countTo v f) cols → columnsOf v f env ++ cond (f v) (getD env v (pos 0) ∷ []) [] ≡ take (countTo v f + cond (f v) 1 0) cols
-        go true p i = rw (i, p, h v (omega arith) p, add-one) (sym (take-suc cols (countTo v f) (pos 0) (omega (arith, rw p at s))))
-        go false p i = rw (i, p, append-nil, add-zero)
-
-    pub columns-spread : (v : ℕ) → v ≤ 16 → length cols ≡ countTo v f → columnsOf v f (spread v f cols) ≡ cols
-    columns-spread v s e = columns-are v (spread v f cols) (omega arith) (λ k l p. spread-at v k s l p) ∙ rw (← e) (take-length cols)
 
   pub spread-alike : (v : ℕ) (vars : List Val) → v ≤ 16 → v ≤ length vars → Alike v f vars (spread v f (columnsOf v f vars))
   spread-alike v vars s l = record {

@@ -16,7 +16,8 @@ use Rattle.paper.proofs.Columns.{computed, shared, entry-in-J}
 use Rattle.columns.specs.OnPlan.{entered, handed, leaving, planWalk, spread, narrowed, lineRound}
 use Rattle.columns.specs.Proper.{Proper}
 use Rattle.columns.proofs.Reading.{exit-alike}
-use Rattle.columns.proofs.Alike.{Alike, Ways, both-on, both-ended, Covered, alike-less, alike-self, looks-agree, steps-alike}
+use Rattle.columns.specs.Alike.{Alike}
+use Rattle.columns.proofs.Alike.{Ways, both-on, both-ended, Covered, alike-less, alike-self, looks-agree, steps-alike}
 use Rattle.columns.proofs.Sets.{alike-kept, columns-same, spread-alike}
 use Rattle.columns.proofs.Endings.{Named, exit-named}
 
@@ -98,27 +99,11 @@ module _ (r : Rule) (ok : Proper r) where
     through-same (on env ls) = leave-same _ env ls _ _ (λ t p. let m = goto-ahead b env l t p in h t env ls (m .0) (m .1))
     through-same (ended st ls) = refl
 
-    leaving-same : (w : Way) → leaving r b w (blockOf r b .ending) W ≡ leaving r b w (blockOf r b .ending) U
-    leaving-same (on env ls) = leave-same _ (handed r b env) ls _ _ (λ t p. let m = goto-ahead b env l t p in h t (handed r b env) ls (m .0) (m .1))
-    leaving-same (ended st ls) = refl
-
   pub walk-enough : (f g q b : ℕ) (env ls : List Val) → b < size r → size r ≤ f + b → size r ≤ g + b → walk f r q b env ls ≡ walk g r q b env ls
   unfolding walk
   walk-enough zero g q b env ls l m n = absurd (omega arith)
   walk-enough (suc f) zero q b env ls l m n = absurd (omega arith)
   walk-enough (suc f) (suc g) q b env ls l m n = through-same b l _ _ (λ t env ls i j. walk-enough f g q t env ls i (omega arith) (omega arith)) (steps q (blockOf r b .body) env ls)
-
-  plan-enough : (f g q b : ℕ) (env ls : List Val) → b < size r → size r ≤ f + b → size r ≤ g + b → planWalk f r q b env ls ≡ planWalk g r q b env ls
-  unfolding planWalk
-  plan-enough zero g q b env ls l m n = absurd (omega arith)
-  plan-enough (suc f) zero q b env ls l m n = absurd (omega arith)
-  plan-enough (suc f) (suc g) q b env ls l m n = leaving-same b l _ _ (λ t env ls i j. plan-enough f g q t env ls i (omega arith) (omega arith)) (steps q (blockOf r b .body) (entered r b env) ls)
-
-  -- so a walk may start anew at each block
-  pub plan-next : (q b : ℕ) (env ls : List Val) → b < size r
-      → planWalk (size r) r q b env ls ≡ leaving r b (steps q (blockOf r b .body) (entered r b env) ls) (blockOf r b .ending) (λ t env ls. planWalk (size r) r q t env ls)
-  unfolding planWalk
-  plan-next q b env ls l = plan-enough (size r) (suc (size r)) q b env ls l (omega arith) (omega arith)
 
   -- a round that goes on, goes on at a block of J
   pub jumps-into-J : (q b : ℕ) (vars ls : List Val) → length vars ≡ r .variables → b < size r → (t : ℕ) (x ms : List Val) → walk (size r) r q b vars ls ≡ jumped t x ms → (t < size r) × (flowOf r .J t ≡ true)

@@ -1,4 +1,5 @@
 pub mod OnPlan
 pub mod Proper
 pub mod Row
+pub mod Alike
 pub mod Range

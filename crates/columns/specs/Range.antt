@@ -1,16 +1,12 @@
 -- Values stay in the range: what a rule's constants have to keep to for that, and what it says of a row's state.
 use Prim.Native.Nat.{ℕ}
-use mathlib.Core.Path.{_≡_}
 use mathlib.Core.List.{List, List·Memᴰ}
 use lib.IntN.{pos}
 use lib.ListN.{getD}
-use Rattle.paper.specs.Values.{Val, value, settled}
+use Rattle.paper.specs.Values.{Val}
 use Rattle.paper.specs.Rule.{Expr, Const, Var, Neg, Op, Case, Stmt, Set, Emit, Rule, blockOf}
 use Rattle.paper.specs.Direct.{State}
-
--- the test of the range gives it back
-abbrev pub InRange : Val → Type 0
-InRange z = settled z ≡ value z
+use Rattle.paper.specs.Limits.{InRange}
 
 abbrev pub AllInRange : List Val → Type 0
 AllInRange xs = (k : ℕ) → InRange (getD xs k (pos 0))

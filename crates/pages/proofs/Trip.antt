@@ -128,18 +128,18 @@ module _ (rule : List ℕ) (h1 : 1 ≤ length rule) where
 abbrev pub Bytes : List ℕ → Type 0
 Bytes xs = (i : ℕ) → getD xs i 0 < 256
 
-bytes-append : (xs ys : List ℕ) → Bytes xs → Bytes ys → Bytes (xs ++ ys)
+pub bytes-append : (xs ys : List ℕ) → Bytes xs → Bytes ys → Bytes (xs ++ ys)
 bytes-append [] ys hx hy i = hy i
 bytes-append (x ∷ xs) ys hx hy zero = hx 0
 bytes-append (x ∷ xs) ys hx hy (suc i) = bytes-append xs ys (λ j. hx (suc j)) hy i
 
-bytes-take : (n : ℕ) (xs : List ℕ) → Bytes xs → Bytes (take n xs)
+pub bytes-take : (n : ℕ) (xs : List ℕ) → Bytes xs → Bytes (take n xs)
 bytes-take zero xs h i = omega arith
 bytes-take (suc n) [] h i = h i
 bytes-take (suc n) (x ∷ xs) h zero = h 0
 bytes-take (suc n) (x ∷ xs) h (suc i) = bytes-take n xs (λ j. h (suc j)) i
 
-bytes-drop : (n : ℕ) (xs : List ℕ) → Bytes xs → Bytes (drop n xs)
+pub bytes-drop : (n : ℕ) (xs : List ℕ) → Bytes xs → Bytes (drop n xs)
 bytes-drop n xs h i = rw (getD-drop n xs i 0) (h (n + i))
 
 -- two bytes as a number, and that number as two bytes

@@ -7,8 +7,8 @@ use native.Mathlib.Omega.{arith}
 use borrow.Author.Tests.{not-true}
 use Rattle.paper.specs.Rule.{Rule}
 use Rattle.paper.specs.Columns.{Flow, flowOf, outputs, Meets, Inputs, passes, inputsOf, LC}
+use Rattle.paper.specs.Smallest.{Closed, Smallest}
 use Rattle.paper.proofs.Tests.{or-left, or-right, or-case, and-both, and-parts, some-in, some-out, both-ways}
-use Rattle.paper.proofs.Smallest.{Closed, Smallest}
 use Rattle.paper.proofs.Reached.{closure-smallest}
 
 module _ (g : Flow) where

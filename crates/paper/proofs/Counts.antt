@@ -8,12 +8,9 @@ use native.Mathlib.Nat.{not-suc-le-zero}
 use native.Mathlib.Omega.{arith}
 use lib.ListN.{length, length-append}
 use Rattle.paper.specs.Values.{Val}
+use Rattle.paper.specs.Smallest.{Within}
 use Rattle.paper.specs.Batch.{countTo, columnsOf}
 use Rattle.paper.proofs.Tests.{last-or}
-
--- what s holds below n, u holds
-abbrev pub Within : ℕ → (ℕ → Bool) → (ℕ → Bool) → Type 0
-Within n s u = (b : ℕ) → b < n → s b ≡ true → u b ≡ true
 
 -- ---- a test as 1 or 0
 one-le : (x : Bool) → cond x 1 0 ≤ 1

@@ -6,18 +6,15 @@ use Prim.Native.Nat.{ℕ, zero, suc, _+_, _-_, _*_, _/_, _%_, _^_, _≤_, _<_}
 use native.Mathlib.Nat.{not-suc-le-zero, pow-suc, add-comm}
 use native.Mathlib.Omega.{arith}
 use lib.Dec.{eqb}
-use lib.Pow.{high, low, field, mod-mod-pow, pow-mono}
-use Rattle.paper.specs.Plan.{maskOf}
+use lib.Pow.{high, low, field, mod-mod-pow}
+use Rattle.paper.specs.Plan.{maskOf, bitOf}
 use Rattle.paper.specs.Batch.{countTo}
 use Rattle.paper.proofs.Tests.{last-or}
 use Rattle.paper.proofs.Counts.{count-same}
 
--- bit k, as a number and as a test
-abbrev pub bit : ℕ → ℕ → ℕ
+-- bit k as a number: `bitOf` asks whether it is 1
+abbrev bit : ℕ → ℕ → ℕ
 bit m k = m / 2 ^ k % 2
-
-abbrev pub bitOf : ℕ → ℕ → Bool
-bitOf m k = eqb (bit m k) 1
 
 -- ---- how large it is
 cond-le : (x : Bool) (p : ℕ) → cond x p 0 ≤ p
@@ -28,9 +25,6 @@ pub mask-lt : (v : ℕ) (f : ℕ → Bool) → maskOf v f < 2 ^ v
 unfolding maskOf
 mask-lt zero f = omega arith
 mask-lt (suc v) f = rw pow-suc (omega (arith, mask-lt v f, cond-le (f v) (2 ^ v)))
-
-pub mask-fits : (v : ℕ) (f : ℕ → Bool) → v ≤ 16 → maskOf v f < 65536
-mask-fits v f h = let m : 2 ^ v ≤ 65536 = pow-mono h in omega (arith, mask-lt v f)
 
 -- ---- it is read back
 times-one : (x : Bool) (p : ℕ) → cond x p 0 ≡ cond x 1 0 * p
@@ -79,9 +73,3 @@ read-back v f k h = rw (mask-bit v f k h) (is-one (f k))
 -- the number of ones below bit k is a column's place
 pub mask-count : (v : ℕ) (f : ℕ → Bool) (k : ℕ) → k ≤ v → countTo k (bitOf (maskOf v f)) ≡ countTo k f
 mask-count v f k h = count-same k _ _ (λ j l. read-back v f j (omega arith))
-
--- equal sets have equal masks
-pub mask-same : (v : ℕ) (f g : ℕ → Bool) → ((k : ℕ) → k < v → f k ≡ g k) → maskOf v f ≡ maskOf v g
-unfolding maskOf
-mask-same zero f g h = refl
-mask-same (suc v) f g h = rw (mask-same v f g (λ k l. h k (omega arith)), h v (omega arith))

@@ -6,9 +6,9 @@ use Prim.Native.Nat.{ℕ, zero, suc, _≤_, _<_}
 use native.Mathlib.Omega.{arith}
 use Rattle.paper.specs.Batch.{countTo}
 use Rattle.paper.specs.Columns.{some, among, grown, rounds, closure}
+use Rattle.paper.specs.Smallest.{Within, Closed, Smallest}
 use Rattle.paper.proofs.Tests.{or-left, or-right, or-case, and-both, and-parts, some-in, some-out, listed, less-or}
-use Rattle.paper.proofs.Counts.{Within, count-full, no-larger}
-use Rattle.paper.proofs.Smallest.{Closed, Smallest}
+use Rattle.paper.proofs.Counts.{count-full, no-larger}
 
 -- ---- one round
 module _ (n : ℕ) (edge : ℕ → ℕ → Bool) (s : ℕ → Bool) where

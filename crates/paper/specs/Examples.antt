@@ -7,8 +7,9 @@ use mathlib.Core.List.{List, [], _∷_}
 use lib.IntN.{pos, negℤ}
 use lib.ListN.{length, take, drop}
 use Rattle.paper.specs.Values.{Val, Out, value, fault, flaw, kindNumber, least, settled, product, quotient, remainder}
-use Rattle.paper.specs.Rule.{Rule, Block, Jump}
+use Rattle.paper.specs.Rule.{Add, Subtract, Less, Const, Var, Op, Compare, Set, Emit, Goto, Jump, Stop, If, Block, Rule}
 use Rattle.paper.specs.Grammar.{Got, got, refused, then, twos, exprAt, endAt, blockFrom, blocksTo, headed, ruleOf}
+use Rattle.paper.specs.Spelling.{constantBytes, exprBytes, stmtBytes, endBytes, inTurn, blockBytes, bytesOf}
 use Rattle.paper.specs.Meaning.{eval}
 use Rattle.paper.specs.Direct.{State, step, steps, exit, walk, start, advance, after}
 use Rattle.paper.specs.Columns.{some, reads, endLooks, readFirst, sets, jumpsTo, leadsTo, outputs, from, grown, rounds, closure, inputsOf}
@@ -30,6 +31,19 @@ R =
     ∷ 0x20 ∷ 0x01 ∷ 0x04 ∷ 0x02 ∷ 0x01 ∷ 0x02 ∷ 0x00 ∷ 0x20 ∷ 0x00 ∷ 0x05 ∷ 0x02 ∷ 0x00 ∷ 0x01 ∷ 0x01 ∷ 0x00 ∷ 0x00 ∷ 0x00 ∷ 0x31 ∷ 0x01
     ∷ []
 
+-- its tree
+abbrev treeR : Rule
+treeR = record {
+  variables = 2;
+  arguments = 1;
+  blocks =
+      record { body = Emit (Var 0) ∷ []; ending = Goto 1 }
+      ∷ record { body = []; ending = If (Compare Less (Var 0) (Const (pos 1))) (Goto 2) (Goto 3) }
+      ∷ record { body = Emit (Var 1) ∷ []; ending = Stop }
+      ∷ record { body = Set 1 (Op Add (Var 1) (Var 0)) ∷ Set 0 (Op Subtract (Var 0) (Const (pos 1))) ∷ []; ending = Jump 1 }
+      ∷ [];
+}
+
 -- its plan: LC, then offset, inputs, outputs and J for each of the four blocks
 abbrev pub planR : List ℕ
 planR =
@@ -46,14 +60,14 @@ abbrev planFor : List ℕ → Got (List ℕ)
 planFor s = then (ruleOf s) (λ r n. got (planOf r s) n)
 
 -- one row of rule R
-abbrev row : ℕ → ℕ → Batch
+abbrev pub row : ℕ → ℕ → Batch
 row budget q = record { plan = planR; rows = 1; values = pos 2 ∷ []; budget = budget; quota = q }
 
 -- a run: its reply, its records and its table, where there is room enough
-abbrev ran : Batch → Reply × (List Word × List Word)
+abbrev pub ran : Batch → Reply × (List Word × List Word)
 ran b = (runReply b (planned (b .plan)) 100 100, (recordsIn b (planned (b .plan)), tableIn b (planned (b .plan))))
 
-abbrev words : List ℕ → List Word
+abbrev pub words : List ℕ → List Word
 words [] = []
 words (n ∷ ns) = pos n ∷ words ns
 
@@ -72,13 +86,13 @@ abbrev emitsFaultPlan : List ℕ
 emitsFaultPlan = 0x01 ∷ 0x01 ∷ 0x00 ∷ 0x01 ∷ 0 ∷ 0 ∷ 14 ∷ 0 ∷ 0 ∷ 0 ∷ 0 ∷ 0 ∷ 1 ∷ 0 ∷ drop 4 emitsFault
 
 -- the smallest rule, and one that jumps to its own block for ever
-abbrev smallest : List ℕ
+abbrev pub smallest : List ℕ
 smallest = 0x01 ∷ 0x01 ∷ 0x00 ∷ 0x01 ∷ 0x32 ∷ []
 
 abbrev endless : Rule
 endless = record { variables = 1; arguments = 0; blocks = record { body = []; ending = Jump 0 } ∷ [] }
 
-abbrev minus : ℕ → Val
+abbrev pub minus : ℕ → Val
 minus n = negℤ (pos n)
 
 -- ---- the table
@@ -112,18 +126,9 @@ examples =
     × ((q n : ℕ) → after endless q n (start endless []) .status ≡ 0))
     ∷ []
 
--- what the table of E1 to E12 leaves open: the ends of the range, the order of refusals at one place, a header that is bad twice
-pub corners : List (Type 0)
-corners =
-    ((settled (minus 2147483648) ≡ value (minus 2147483648)) × (settled (minus 2147483649) ≡ fault (flaw OutOfRange)))
-    ∷ ((settled (pos 2147483647) ≡ value (pos 2147483647)) × (settled (pos 2147483648) ≡ fault (flaw OutOfRange)))
-    ∷ ((exprAt 0 1 [] 0 ≡ refused 9 0) × (exprAt 0 1 (0xFF ∷ []) 0 ≡ refused 8 0) × (exprAt 1 1 (0xFF ∷ []) 0 ≡ refused 5 0))
-    ∷ ((ruleOf (0xFF ∷ 0xFF ∷ []) ≡ refused 9 2) × (ruleOf (0x01 ∷ 0x00 ∷ 0x09 ∷ 0x41 ∷ []) ≡ refused 4 1))
-    ∷ []
-
 -- ---- the claims
 
-abbrev All : List (Type 0) → Type 0
+abbrev pub All : List (Type 0) → Type 0
 All [] = Unit {0}
 All (claim ∷ claims) = claim × All claims
 
@@ -141,6 +146,7 @@ unfolding examples settled quotient remainder twos exprAt endAt blockFrom blocks
 examples-hold =
     ((refl, refl), ((refl, refl), (refl, (refl, (refl, ((refl, refl), ((refl, refl, refl), ((refl, refl), (refl, (refl, ((refl, refl, refl), ((refl, refl, λ q n. ap (λ s. s .status) (endless-after q n)), tt))))))))))))
 
-pub corners-hold : All corners
-unfolding corners settled exprAt headed ruleOf
-corners-hold = ((refl, refl), ((refl, refl), ((refl, refl, refl), ((refl, refl), tt))))
+-- R is read as its tree, and the tree is written as R; a constant below 0 is written in two's complement
+pub written : ((ruleOf R ≡ got treeR 45) × (bytesOf treeR ≡ R)) × ((constantBytes (minus 1) ≡ 0xFF ∷ 0xFF ∷ 0xFF ∷ 0xFF ∷ []) × (constantBytes (minus 2147483648) ≡ 0 ∷ 0 ∷ 0 ∷ 0x80 ∷ []))
+unfolding twos exprAt endAt blockFrom blocksTo headed ruleOf exprBytes stmtBytes endBytes inTurn blockBytes bytesOf
+written = ((refl, refl), (refl, refl))

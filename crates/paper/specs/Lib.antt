@@ -1,12 +1,16 @@
 pub mod Values
 pub mod Rule
 pub mod Grammar
+pub mod Spelling
+pub mod Limits
 pub mod Meaning
 pub mod Direct
 pub mod Columns
+pub mod Smallest
 pub mod Plan
 pub mod Pages
 pub mod Batch
 pub mod Finder
 pub mod Calls
 pub mod Examples
+pub mod Corners

@@ -17,6 +17,10 @@ unfoldable pub maskOf : ℕ → (ℕ → Bool) → ℕ
 maskOf zero f = 0
 maskOf (suc v) f = maskOf v f + cond (f v) (2 ^ v) 0
 
+-- whether a mask holds variable k
+abbrev pub bitOf : ℕ → ℕ → Bool
+bitOf m k = eqb (m / 2 ^ k % 2) 1
+
 -- where what is read ends
 abbrev pub endOf : {A : Type 0} → Got A → ℕ
 endOf (got a n) = n

@@ -1,6 +1,7 @@
 -- What a caller may take from an accepted plan, with nothing parsed again. Assumes nothing.
 use Prim.Native.Nat.{ℕ, suc, _+_, _*_, _≤_, _<_}
 use mathlib.Core.Path.{_≡_, refl, sym, ap, _∙_}
+use mathlib.Core.Bool.{cond}
 use mathlib.Core.List.{List, []}
 use native.Mathlib.Omega.{arith}
 use lib.ListN.{length, take, getD}
@@ -12,7 +13,7 @@ use Rattle.paper.specs.Pages.{wordAt}
 use Rattle.columns.specs.Proper.{Proper}
 use Rattle.rules.specs.Accepted.{RuleIn}
 use Rattle.rules.proofs.Accepted.{rule-in}
-use Rattle.rules.proofs.Places.{block-stands}
+use Rattle.rules.proofs.Places.{rule-header, block-stands}
 use Rattle.flows.proofs.Flow.{place-past}
 use Rattle.plans.specs.declared.Taken.{Taken}
 use Rattle.plans.specs.declared.Taken.the-variants as taken
@@ -21,7 +22,6 @@ use Rattle.plans.specs.Accepted.{treeOf, ruleIn, Accepted}
 use Rattle.plans.proofs.Fields.{word-le16, plan-length, plan-lc, plan-entry, plan-byte}
 use Rattle.plans.proofs.Accepted.{Plan, is-plan}
 use Rattle.plans.proofs.Proper.{proper}
-use Rattle.plans.proofs.Ruling.{rule-long}
 
 -- ---- an accepted plan, from the answer of `take`
 pub accepted : {p : List ℕ} {t : Taken} {buffer : List ℕ} → Taking p t buffer → (n : ℕ) → t ≡ taken.Rule n → Accepted p
@@ -55,7 +55,7 @@ module _ (p : List ℕ) (a : Accepted p) where
   carried-proper = proper (carried p) (ruleIn p) (a .next) carried-rule
 
   long : 4 ≤ length (carried p)
-  long = rule-long (carried p) (ruleIn p) (a .next) carried-rule
+  long = rule-header (carried p) (ruleIn p) (a .next) carried-rule
 
   pub plan-long : length p ≡ planSize (size (ruleIn p)) (length (carried p))
   plan-long = sym (ap length (whole .bytes)) ∙ plan-length (ruleIn p) (carried p) long
@@ -95,6 +95,10 @@ module _ (p : List ℕ) (a : Accepted p) where
     pub at-outputs : wordAt p (6 + (8 * b + 4)) ≡ maskOf (ruleIn p .variables) (outputsOf (flowOf (ruleIn p)) b)
     unfolding entryOf
     at-outputs = word 4 (omega arith) ∙ word-le16 _ []
+
+    pub at-joins : wordAt p (6 + (8 * b + 6)) ≡ cond (flowOf (ruleIn p) .J b) 1 0
+    unfolding entryOf
+    at-joins = word 6 (omega arith) ∙ word-le16 _ []
 
     -- the block that stands at the place that the offset tells
     pub at-place : blockAt (size (ruleIn p)) b (ruleIn p .variables) (carried p) (placeOf (ruleIn p) (carried p) b) ≡ got (blockOf (ruleIn p) b) (placeOf (ruleIn p) (carried p) (suc b))

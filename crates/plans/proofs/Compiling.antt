@@ -19,9 +19,9 @@ use Rattle.pages.proofs.Reading.{scan-got, scan-refused, absurd-got}
 use Rattle.rules.specs.Opened.{Opened}
 use Rattle.rules.proofs.Accepted.{rule-in}
 use Rattle.rules.proofs.FileLaws.{wrote-all}
+use Rattle.rules.proofs.Places.{rule-header}
 use Rattle.flows.specs.Flow.{Ruled}
 use Rattle.plans.proofs.Fields.{plan-length}
-use Rattle.plans.proofs.Ruling.{rule-long}
 
 -- reading and compiling go the same way up to the last step
 compiles : (g : Got (List ℕ)) (s : List ℕ) (m : ℕ) → then g (λ s _. then (ruleOf s) (λ r n. got s n)) ≡ got s m
@@ -67,7 +67,7 @@ ready {file} {buffer} n o e =
     let c = compiles (unpacked file) (bytesIn (toRead file)) (endOf (toRead file)) (found .0) in
     let is : ruleOf (take n buffer) ≡ got (c .0) (endOf (toRead file)) = rw bytes (c .1) in
     let long : length (take n buffer) ≡ n = ap length bytes ∙ found .1 in
-    let four : 4 ≤ n = omega (arith, rule-long (take n buffer) (c .0) _ is) in
+    let four : 4 ≤ n = omega (arith, rule-header (take n buffer) (c .0) _ is) in
     record {
       ruled = record { rule = c .0; end = endOf (toRead file); is = is; short = omega (arith, o .short n e) };
       long = long;

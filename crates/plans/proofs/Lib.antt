@@ -7,4 +7,8 @@ pub mod Compiling
 pub mod Taking
 pub mod Proper
 pub mod Carried
+pub mod Exactly
+pub mod Files
 pub mod Promises
+pub mod Planned
+pub mod Constants

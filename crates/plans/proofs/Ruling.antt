@@ -9,31 +9,26 @@ use Rattle.paper.specs.Rule.{Rule, size}
 use Rattle.paper.specs.Grammar.{got, ruleOf, variablesIn, blocksIn}
 use Rattle.paper.specs.Columns.{Flow, flowOf, inputsOf, outputsOf}
 use Rattle.paper.specs.Plan.{maskOf, placeOf, planSize}
-use Rattle.rules.specs.Accepted.{RuleIn}
 use Rattle.rules.proofs.Sound.{sound-got}
-use Rattle.rules.proofs.Accepted.{block-sound, rule-sound, rule-in}
-use Rattle.rules.proofs.Places.{block-stands}
+use Rattle.rules.proofs.Accepted.{block-sound, rule-in}
+use Rattle.rules.proofs.Places.{rule-header, block-stands}
 use Rattle.closure.specs.Tables.{Tables}
 use Rattle.flows.specs.Flow.{Ruled, Told}
 use Rattle.flows.proofs.Flow.{place-past, place-within}
 use Rattle.plans.specs.Laid.{Laid, Room}
 
--- a rule has a header
-pub rule-long : (s : List ℕ) (r : Rule) (m : ℕ) → ruleOf s ≡ got r m → 4 ≤ length s
-rule-long s r m e = let g = sound-got (RuleIn s) 3 (length s) (ruleOf s) (rule-sound s) r m e in omega (arith, g .0, g .1)
-
--- and a block after it
+-- after its header a rule has a block
 pub rule-longer : (s : List ℕ) (r : Rule) (m : ℕ) → ruleOf s ≡ got r m → 5 ≤ length s
 rule-longer s r m e =
     let n = size r in
     let some = rule-in s r m e .blocks-from in
-    let there = rule-long s r m e in
+    let there = rule-header s r m e in
     let b = sound-got _ (placeOf r s 0) (length s) _ (block-sound n 0 (r .variables) s (length s) (placeOf r s 0)) _ _ (block-stands s r m e 0 some) in
     omega (arith, b .0, b .1, place-past s r m e 0 (omega arith))
 
 module _ (s : List ℕ) (w : Ruled s) where
   pub ruled-long : 4 ≤ length s
-  ruled-long = rule-long s (w .rule) (w .end) (w .is)
+  ruled-long = rule-header s (w .rule) (w .end) (w .is)
 
   pub ruled-blocks : (1 ≤ blocksIn s) × (blocksIn s ≤ 64)
   ruled-blocks = let i = rule-in s (w .rule) (w .end) (w .is) in (omega (arith, i .blocks-are, i .blocks-from), omega (arith, i .blocks-are, i .blocks-to))

@@ -23,14 +23,14 @@ use Rattle.plans.specs.declared.Taken.the-variants as taken
 use Rattle.plans.specs.Taken.{takenOf, Carrying, Taking}
 use Rattle.plans.proofs.Fields.{plan-length}
 use Rattle.plans.proofs.Accepted.{Plan, is-plan, same-refl, same-is}
-use Rattle.rules.proofs.Places.{rule-end}
-use Rattle.plans.proofs.Ruling.{rule-long, rule-longer}
+use Rattle.rules.proofs.Places.{rule-end, rule-header}
+use Rattle.plans.proofs.Ruling.{rule-longer}
 
 -- a plan that was compiled into a longer buffer, compared at its own size
 pub compared : (s : List ℕ) (r : Rule) (m : ℕ) → ruleOf s ≡ got r m → (p : List ℕ) → planSize (blocksIn s) (length s) ≡ length p
     → (old new : List ℕ) → new ≡ over old 0 (planOf r s) → {b : Bool} → b ≡ same (take (length p) new) p → b ≡ same (planOf r s) p
 compared s r m e p fills old new w q =
-    let long : length (planOf r s) ≡ length p = plan-length r s (rule-long s r m e) ∙ rw (rule-in s r m e .blocks-are) fills in
+    let long : length (planOf r s) ≡ length p = plan-length r s (rule-header s r m e) ∙ rw (rule-in s r m e .blocks-are) fills in
     let part : take (length p) new ≡ planOf r s = rw (w, over-start old (planOf r s)) (take-at (planOf r s) _ (length p) long) in
     q ∙ ap (λ l. same l p) part
 
@@ -120,7 +120,7 @@ module _ {p : List ℕ} {t : Taken} {buffer : List ℕ} (c : Carrying p t buffer
       pub taken-fills : planSize (blocksIn (take n buffer)) (length (take n buffer)) ≡ length p
       taken-fills =
           let f = c .fills n carries in
-          let l = rule-long (take n buffer) (is .0) m (is .1) in
+          let l = rule-header (take n buffer) (is .0) m (is .1) in
           let k = taken-length in
           rw (taken-length, c .bytes n carries, carried-blocks p (omega arith)) (sym f)
 

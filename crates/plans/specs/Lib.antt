@@ -1,3 +1,4 @@
 pub mod Laid
 pub mod Taken
 pub mod Accepted
+pub mod Promised

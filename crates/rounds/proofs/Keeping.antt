@@ -9,8 +9,8 @@ use mathlib.Core.List.{List}
 use lib.IntN.{pos}
 use lib.ListN.{set}
 use Rattle.paper.specs.Values.{Val}
+use Rattle.paper.specs.Plan.{bitOf}
 use Rattle.columns.specs.OnPlan.{kept}
-use Rattle.rounds.specs.Run.{bitOf}
 
 -- the next bit
 pub halved : (mask k : ℕ) → mask / 2 ^ k / 2 ≡ mask / 2 ^ (k + 1)

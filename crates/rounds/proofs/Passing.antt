@@ -5,9 +5,10 @@ use mathlib.Core.List.{List}
 use lib.ListN.{take}
 use Rattle.paper.specs.Values.{Val, Out, value, fault}
 use Rattle.paper.specs.Grammar.{levels}
+use Rattle.paper.specs.Plan.{bitOf}
 use Rattle.paper.specs.Direct.{ended, Exit, toBlock, toRound, toStop, exit, Round, leave}
 use Rattle.columns.specs.OnPlan.{kept}
-use Rattle.rounds.specs.Run.{EndHere, leftOf, BlockHere, Stepped, bitOf, wentOf, roundOf, labelsOf, Passed}
+use Rattle.rounds.specs.Run.{EndHere, leftOf, BlockHere, Stepped, wentOf, roundOf, labelsOf, Passed}
 use Rattle.rounds.specs.declared.Left.{Left}
 use Rattle.rounds.specs.declared.Ran.{Ran}
 use Rattle.rounds.specs.declared.Went.{Went}

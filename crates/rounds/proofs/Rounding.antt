@@ -10,7 +10,7 @@ use borrow.Author.Tests.{ne-eqb}
 use Rattle.paper.specs.Values.{Val, Out, value, fault}
 use Rattle.paper.specs.Rule.{Rule, size, blockOf}
 use Rattle.paper.specs.Columns.{flowOf, inputsOf, outputsOf}
-use Rattle.paper.specs.Plan.{maskOf, placeOf, carried}
+use Rattle.paper.specs.Plan.{maskOf, bitOf, placeOf, carried}
 use Rattle.paper.specs.Pages.{wordAt}
 use Rattle.paper.specs.Direct.{Way, on, ended, steps, Exit, toBlock, toRound, toStop, exit, Round, jumped, finished, leave}
 use Rattle.paper.proofs.Masks.{read-back}
@@ -22,7 +22,7 @@ use Rattle.plans.specs.Accepted.{ruleIn, Accepted}
 use Rattle.plans.proofs.Carried.{at-variables, at-blocks, at-offset, at-inputs, at-outputs, at-place}
 use Rattle.rounds.specs.declared.Went.{Went}
 use Rattle.rounds.specs.declared.Entry.{Entry}
-use Rattle.rounds.specs.Run.{Begins, BlockHere, bitOf, roundOf, labelsOf, leftBy, Passed}
+use Rattle.rounds.specs.Run.{Begins, BlockHere, roundOf, labelsOf, leftBy, Passed}
 use Rattle.rounds.specs.Round.{Entered, endedAs, Walked, Going}
 use Rattle.rounds.proofs.Keeping.{kept-same}
 use Rattle.rounds.proofs.Longer.{block-over}

@@ -1,13 +1,13 @@
 -- What stands where a block runs, and the answers of its statements and its ending. Assumes nothing: these are definitions.
-use Prim.Native.Nat.{ℕ, _≤_, _<_, _/_, _%_, _^_}
+use Prim.Native.Nat.{ℕ, _≤_, _<_}
 use mathlib.Core.Path.{_≡_}
 use mathlib.Core.Bool.{Bool}
 use mathlib.Core.List.{List}
-use lib.Dec.{eqb}
 use lib.ListN.{length, getD, take, drop}
 use Rattle.paper.specs.Values.{Val, Out, value, fault}
 use Rattle.paper.specs.Rule.{End, Block}
 use Rattle.paper.specs.Grammar.{got, endAt, blockFrom, levels}
+use Rattle.paper.specs.Plan.{bitOf}
 use Rattle.paper.specs.Direct.{stopped, faulted, Way, on, ended, steps, Exit, toBlock, toRound, toStop, exit, Round, jumped, finished, leave}
 use Rattle.columns.specs.OnPlan.{kept}
 use Rattle.rounds.specs.declared.Left.{Left}
@@ -65,12 +65,6 @@ pub record Stepped (v : ℕ) (s : List ℕ) (at : ℕ) (h : BlockHere v s at) (q
   pub ending : (p k : ℕ) → r ≡ Ran.Ready p k → endAt levels (h .blocks) (h .block) v s p ≡ got (h .what .ending) (h .next)
   pub within : countOf r ≤ q
   pub rest : drop (countOf r) labels' ≡ drop (countOf r) labels
-
--- ---- masks
-
--- a mask as a set of variables
-abbrev pub bitOf : ℕ → ℕ → Bool
-bitOf m k = eqb (m / 2 ^ k % 2) 1
 
 -- ---- a block
 

@@ -34,7 +34,7 @@ module _ (left n b v : ℕ) (s : List ℕ) (at : ℕ) where
   abbrev E : ℕ → Got End
   E m = endAt (left - 1) n b v s m
 
-  end-level : endAt left n b v s at ≡ then (tagAt left s at) (λ t _. endBody (endTag t) n b v s E at)
+  pub end-level : endAt left n b v s at ≡ then (tagAt left s at) (λ t _. endBody (endTag t) n b v s E at)
   unfolding endAt
   end-level = levelled left s at (λ d. endAt d n b v s at) (λ d t. endBody (endTag t) n b v s (λ m. endAt d n b v s m) at) refl (λ d. refl)
 

@@ -169,11 +169,11 @@ module _ (left v : ℕ) (s : List ℕ) (at : ℕ) where
   abbrev C : ℕ → Got Cond
   C n = condAt (left - 1) v s n
 
-  expr-level : exprAt left v s at ≡ then (tagAt left s at) (λ t _. exprBody (exprTag t) v s E C at)
+  pub expr-level : exprAt left v s at ≡ then (tagAt left s at) (λ t _. exprBody (exprTag t) v s E C at)
   unfolding exprAt
   expr-level = levelled left s at (λ d. exprAt d v s at) (λ d t. exprBody (exprTag t) v s (λ n. exprAt d v s n) (λ n. condAt d v s n) at) refl (λ d. refl)
 
-  cond-level : condAt left v s at ≡ then (tagAt left s at) (λ t _. condBody (condTag t) E C at)
+  pub cond-level : condAt left v s at ≡ then (tagAt left s at) (λ t _. condBody (condTag t) E C at)
   unfolding condAt
   cond-level = levelled left s at (λ d. condAt d v s at) (λ d t. condBody (condTag t) (λ n. exprAt d v s n) (λ n. condAt d v s n) at) refl (λ d. refl)
 

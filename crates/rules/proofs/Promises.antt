@@ -13,7 +13,7 @@ use borrow.Author.Tests.{ltb-true, ltb-false, lt-ltb, le-ltb}
 use Rattle.paper.specs.Rule.{Rule}
 use Rattle.paper.specs.Grammar.{Got, got, refused, then, readOf, ruleOf, longest}
 use Rattle.paper.specs.Plan.{endOf}
-use Rattle.paper.specs.Pages.{fileOf, unpacked}
+use Rattle.paper.specs.Pages.{pagesFor, fileOf, unpacked}
 use Rattle.paper.specs.Calls.{refusal, left, toRead, toWrite, replyIn, bytesIn, Wrote}
 use Rattle.paper.specs.declared.Refusal.{Refusal}
 use Rattle.paper.specs.declared.Reply.{Reply}
@@ -152,12 +152,18 @@ module _ (s out : List ℕ) (n : ℕ) (out′ : List ℕ) (w : Wrote (toWrite s)
           let p : t .place ≡ m = cc in
           record { rule = t .first; is = t .was ∙ ap (got (t .first)) p; brief = ltb-false longest (length s) i; bytes = (cc) }
 
+  abbrev written : Kept (bytesIn (toWrite s)) (endOf (toWrite s))
+  written = kept (bytesIn (toWrite s)) (endOf (toWrite s)) (done-what (toWrite s) out n out′ w)
+
+  -- the file holds these bytes
+  pub written-holds : unpacked (take n out′) ≡ got s (pagesFor (length s))
+  written-holds =
+      let f : take n out′ ≡ fileOf s = done-bytes (toWrite s) out n out′ w ∙ written .bytes in
+      rw f (write-read s (omega (arith, rule-header s (written .rule) (endOf (toWrite s)) (written .is))) (written .brief))
+
   pub written-read : (b : List ℕ) (r : Reply) (b′ : List ℕ) → length s ≤ length b → Wrote (toRead (take n out′)) b r b′ → (r ≡ Done (length s)) × (take (length s) b′ ≡ s)
   unfolding toRead
-  written-read b r b′ l h =
-      let k = kept (bytesIn (toWrite s)) (endOf (toWrite s)) (done-what (toWrite s) out n out′ w) in
-      let f : take n out′ ≡ fileOf s = done-bytes (toWrite s) out n out′ w ∙ k .bytes in
-      all-written (toRead (take n out′)) s (endOf (toWrite s)) b r b′ (rw (f, write-read s (omega (arith, rule-header s (k .rule) (endOf (toWrite s)) (k .is))) (k .brief), k .is)) l h
+  written-read b r b′ l h = all-written (toRead (take n out′)) s (endOf (toWrite s)) b r b′ (rw (written-holds, written .is)) l h
 
 -- what is written after it was read: the same file, byte for byte
 module _ (file out : List ℕ) (n : ℕ) (out′ : List ℕ) (bytes : Bytes file) (w : Wrote (toRead file) out (Done n) out′) where

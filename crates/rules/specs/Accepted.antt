@@ -1,4 +1,5 @@
--- What can be relied on in a rule that is accepted: its variables exist, its targets exist, and its gotos rise. Assumes nothing: these are definitions.
+-- What can be relied on in a rule that is accepted: its variables exist, its targets exist, and its gotos rise. This holds of any numbers that are read;
+-- where they are bytes, the rule keeps to all limits of the definitions (proofs/Spelling). Assumes nothing: these are definitions.
 use Prim.Native.Nat.{ℕ, _<_, _≤_}
 use mathlib.Core.Path.{_≡_}
 use mathlib.Core.Bool.{Bool, true}

@@ -1,5 +1,6 @@
 -- When each reply is given by a call that takes a file, and by the one that writes a file: a constructor to a row of 01's table of reply numbers, and
--- one for the size that is written where no row holds. Assumes nothing: these are definitions.
+-- one for the size that is written where no row holds. 1 to 3, 11 and 12 are stated by themselves; which of 4 to 10 is given, and where, is what the
+-- grammar function gives, so these are as exact as it is and no more. Assumes nothing: these are definitions.
 use Prim.Native.Nat.{ℕ, _≤_, _<_}
 use mathlib.Core.Path.{_≡_}
 use mathlib.Core.List.{List}

@@ -24,8 +24,8 @@ use Rattle.pages.proofs.Writing.{length-file}
 use Rattle.rules.specs.Accepted.{RuleIn}
 use Rattle.rules.proofs.Sound.{Sound}
 use Rattle.rules.proofs.Accepted.{rule-sound, rule-in}
+use Rattle.rules.proofs.Places.{rule-header}
 use Rattle.plans.proofs.Fields.{plan-length}
-use Rattle.plans.proofs.Ruling.{rule-long}
 use Rattle.tap.specs.Packed.{packed, Clear, Stands}
 
 -- what is to be written, or the place of what is refused, is at most m
@@ -122,7 +122,7 @@ unfolding toCompile
 compile-within file =
     of-file file (λ s r. planOf r s) (λ s r n h e.
     let few = rule-in s r n e .blocks-to in
-    omega (arith, plan-length r s (rule-long s r n e)))
+    omega (arith, plan-length r s (rule-header s r n e)))
 
 -- ---- the most rounds
 

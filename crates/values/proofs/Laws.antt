@@ -1,7 +1,7 @@
 -- Laws of the integers that the proofs share: which exact results fit a width, and what a result in range settles to.
 -- Assumes nothing.
-use mathlib.Core.Path.{_≡_, refl, sym, ap, subst, _∙_}
-use mathlib.Core.Bool.{Bool, true, false, cond, _||_}
+use mathlib.Core.Path.{_≡_, refl, sym, ap, _∙_}
+use mathlib.Core.Bool.{Bool, true, false, cond}
 use Prim.Native.Nat.{ℕ, zero, suc, _+_, _-_, _*_, _/_, _≤_, _<_}
 use native.Mathlib.Nat.{mul-le-mul, mul-zero, div-le-self, div-one, div-le-of-le-mul, mod-add-div}
 use native.Mathlib.Omega.{arith}
@@ -14,11 +14,8 @@ use mir.Facts.{sfits-widen, toZ-ofZ}
 use mir.ValLaws.{sfits-le}
 use borrow.Author.Needs.{needs}
 use borrow.Author.Tests.{ltb-false, lt-ltb, le-ltb, eqb-true, eqb-false, eq-eqb, ne-eqb}
-use Rattle.paper.specs.Values.{Val, value, fault, flaw, outcomeOf, isEqual, settled, divided, quotient, remainder, least, most}
-use Rattle.paper.specs.Rule.{Operator, Add, Subtract, Multiply, Divide, Remainder}
-use Rattle.paper.specs.Meaning.{applied}
+use Rattle.paper.specs.Values.{value, outcomeOf, isEqual, settled, divided, quotient, remainder, least, most}
 use Rattle.paper.specs.Grammar.{twos}
-use Rattle.paper.specs.declared.Kind.the-variants.{OutOfRange, ZeroDivisor}
 use Rattle.paper.specs.declared.Outcome.the-variants.{Value}
 
 -- ---- the size of a negation, a sum and a product
@@ -73,31 +70,6 @@ pub settled-fits : {z : ℤ} → SFits w32 z → settled z ≡ value z
 unfolding settled
 settled-fits {z = pos n} f = simp (le-ltb 2147483647 n (omega arith))
 settled-fits {z = negsuc n} f = simp (le-ltb 2147483647 n (omega arith))
-
--- the value that a result settles to is in the range
-pub value-fits : (z : ℤ) {w : ℤ} → settled z ≡ value w → SFits w32 w
-unfolding settled
-value-fits z {w} e = go (ltZ z least) (ltZ most z) refl refl e
-  where
-    go : (a b : Bool) → ltZ z least ≡ a → ltZ most z ≡ b → cond (a || b) (fault (flaw OutOfRange)) (value z) ≡ value w → SFits w32 w
-    go true b p q e = let k : _≡_ {A = ℕ} 0 1 = cc in absurd (omega arith)
-    go false true p q e = let k : _≡_ {A = ℕ} 0 1 = cc in absurd (omega arith)
-    go false false p q e = let k : z ≡ w = cc in subst (λ (v : ℤ). SFits w32 v) k (in-range z p q)
-
-divided-value : (y z : ℤ) {w : ℤ} → divided y (settled z) ≡ value w → SFits w32 w
-divided-value y z {w} e = go (eqb (natAbs y) 0) e
-  where
-    go : (b : Bool) → cond b (fault (flaw ZeroDivisor)) (settled z) ≡ value w → SFits w32 w
-    go true e = let k : _≡_ {A = ℕ} 0 1 = cc in absurd (omega arith)
-    go false e = value-fits z e
-
-pub applied-fits : (o : Operator) (x y : Val) {w : Val} → applied o x y ≡ value w → SFits w32 w
-unfolding quotient remainder
-applied-fits Add x y e = value-fits _ e
-applied-fits Subtract x y e = value-fits _ e
-applied-fits Multiply x y e = value-fits _ e
-applied-fits Divide x y e = divided-value y _ e
-applied-fits Remainder x y e = divided-value y _ e
 
 pub ruleset exact = (needs, wide, sum-fits, difference-fits, product-fits, +ℤ-idl)
 

@@ -16,8 +16,10 @@ const LOWEST: i64 = -2147483648;
 
 const HIGHEST: i64 = 2147483647;
 
-// The corner of division: this value by -1 has no quotient in range.
+// The corner of division: the first of these by the second has no quotient in range.
 const LEAST: i32 = -2147483648;
+
+const MINUS_ONE: i32 = -1;
 
 // The status of a row that this fault ends.
 pub fn kind_number(f: Flaw) -> u8
@@ -97,7 +99,7 @@ pub fn divide(x: i32, y: i32) -> Outcome
         });
     }
     if x == LEAST {
-        if y == -1 {
+        if y == MINUS_ONE {
             return Outcome::Fault(Flaw {
                 kind: Kind::OutOfRange,
             });
@@ -116,7 +118,7 @@ pub fn remainder(x: i32, y: i32) -> Outcome
         });
     }
     if x == LEAST {
-        if y == -1 {
+        if y == MINUS_ONE {
             return Outcome::Value(0);
         }
     }

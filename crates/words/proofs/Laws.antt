@@ -19,11 +19,7 @@ module _ {A : Type 0} where
   unfolding over
   length-over d at s h = simp (length-append, length-drop) (omega (arith, length-take-le at d (omega arith)))
 
-  -- what lies before a write, and beyond it
-  pub take-over : (d : List A) (at : ℕ) (s : List A) → at ≤ length d → take at (over d at s) ≡ take at d
-  unfolding over
-  take-over d at s h = take-at (take at d) (s ++ drop (at + length s) d) at (length-take-le at d h)
-
+  -- what lies beyond a write
   pub drop-over : (d : List A) (at : ℕ) (s : List A) (n : ℕ) → at + length s ≤ n → at ≤ length d → drop n (over d at s) ≡ drop n d
   unfolding over
   drop-over d at s n h l =

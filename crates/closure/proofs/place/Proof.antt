@@ -4,7 +4,7 @@ use mathlib.Core.Path.{_≡_}
 use mathlib.Core.Logic.{⊎-elim}
 use Rattle.paper.specs.Batch.{countTo}
 use Rattle.paper.proofs.Counts.{count-le}
-use Rattle.paper.proofs.Masks.{bitOf}
+use Rattle.paper.specs.Plan.{bitOf}
 use Rattle.closure.proofs.Bits.{count-none, count-more}
 use native.Mathlib.Omega.{arith}
 use borrow.Author.Needs.{needs}

@@ -2,8 +2,7 @@
 use Prim.Native.Nat.{ℕ, _-_}
 use mathlib.Core.Bool.{Bool}
 use borrow.Author.Tests.{not-true, not-false}
-use Rattle.paper.proofs.Counts.{Within}
-use Rattle.paper.proofs.Smallest.{Closed}
+use Rattle.paper.specs.Smallest.{Within, Closed}
 use Rattle.paper.specs.Columns.{among}
 use Rattle.paper.specs.Batch.{countTo}
 use Rattle.closure.specs.Tables.{edgeIn}

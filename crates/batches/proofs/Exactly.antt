@@ -1,0 +1,100 @@
+-- A run gives each reply exactly if its row of the table holds. Assumes nothing.
+use Prim.Native.Nat.{ℕ, _*_, _≤_, _<_}
+use mathlib.Core.Path.{_≡_, refl, sym, ap, _∙_}
+use mathlib.Core.Bool.{Bool, true, false, not, _||_}
+use mathlib.Core.Logic.{_↔_, _⊎_, inl, inr}
+use mathlib.Core.List.{List}
+use native.Mathlib.Omega.{arith}
+use lib.Dec.{eqb, ltb}
+use lib.ListN.{length}
+use borrow.Author.Tests.{eqb-true, eqb-false, eq-eqb, ne-eqb, lt-ltb, le-ltb}
+use Rattle.paper.specs.Rule.{Rule}
+use Rattle.paper.specs.Grammar.{Got, got, refused}
+use Rattle.paper.specs.Plan.{planned}
+use Rattle.paper.specs.Batch.{Word, recordSize, lineSize}
+use Rattle.paper.specs.Finder.{mostRows, mostQuota}
+use Rattle.paper.specs.Calls.{Batch, Ran, ranReply, runReply, mostBudget, columns, refusal}
+use Rattle.paper.specs.declared.Reply.{Reply}
+use Rattle.paper.proofs.Tests.{or-right, less-or}
+use Rattle.plans.proofs.Planned.{plan-exactly}
+use Rattle.batches.specs.Replies.{Fitting, Low, UnderRule, misfit, high, shortOut, shortWork, done, ToRun, noPlan, under}
+
+same-or : (a b : ℕ) → (a ≡ b) ⊎ (a ≡ b → ⊥)
+same-or a b = go (eqb a b) refl
+  where
+    go : (x : Bool) → eqb a b ≡ x → (a ≡ b) ⊎ (a ≡ b → ⊥)
+    go true e = inl (eqb-true a b e)
+    go false e = inr (eqb-false a b e)
+
+-- ---- under a rule
+module _ (b : Batch) (r : Rule) (out work : ℕ) where
+  -- some row of the table holds
+  some-row : (q : Reply) × UnderRule b r out work q
+  some-row =
+      go (less-or mostRows (b .rows)) (same-or (length (b .values)) (b .rows * r .arguments)) (less-or mostBudget (b .budget)) (less-or mostQuota (b .quota))
+      (less-or out (b .rows * recordSize (b .quota))) (less-or work (b .rows * lineSize (columns r)))
+    where
+      go : (mostRows < b .rows) ⊎ (b .rows ≤ mostRows) → (length (b .values) ≡ b .rows * r .arguments) ⊎ (length (b .values) ≡ b .rows * r .arguments → ⊥)
+          → (mostBudget < b .budget) ⊎ (b .budget ≤ mostBudget) → (mostQuota < b .quota) ⊎ (b .quota ≤ mostQuota)
+          → (out < b .rows * recordSize (b .quota)) ⊎ (b .rows * recordSize (b .quota) ≤ out) → (work < b .rows * lineSize (columns r)) ⊎ (b .rows * lineSize (columns r) ≤ work)
+          → (q : Reply) × UnderRule b r out work q
+      go (inl h) _ _ _ _ _ = (_, misfit (inl h))
+      go (inr f) (inr h) _ _ _ _ = (_, misfit (inr h))
+      go (inr f) (inl g) (inl h) _ _ _ = (_, high (record { few = f; given = g }) (inl h))
+      go (inr f) (inl g) (inr n) (inl h) _ _ = (_, high (record { few = f; given = g }) (inr h))
+      go (inr f) (inl g) (inr n) (inr l) (inl h) _ = (_, shortOut (record { few = f; given = g }) (record { rounds = n; labels = l }) h)
+      go (inr f) (inl g) (inr n) (inr l) (inr o) (inl h) = (_, shortWork (record { few = f; given = g }) (record { rounds = n; labels = l }) o h)
+      go (inr f) (inl g) (inr n) (inr l) (inr o) (inr w) = (_, done (record { few = f; given = g }) (record { rounds = n; labels = l }) o w)
+
+  -- the tests of 13 and 14
+  abbrev misfits : Bool
+  misfits = ltb mostRows (b .rows) || not (eqb (length (b .values)) (b .rows * r .arguments))
+
+  abbrev highs : Bool
+  highs = ltb mostBudget (b .budget) || ltb mostQuota (b .quota)
+
+  is-misfit : (mostRows < b .rows) ⊎ (length (b .values) ≡ b .rows * r .arguments → ⊥) → misfits ≡ true
+  is-misfit (inl h) = rw (lt-ltb mostRows (b .rows) h)
+  is-misfit (inr h) = or-right (ltb mostRows (b .rows)) _ (ap not (ne-eqb (length (b .values)) (b .rows * r .arguments) h))
+
+  is-fitting : Fitting b r → misfits ≡ false
+  is-fitting f = rw (le-ltb mostRows (b .rows) (f .few), eq-eqb (length (b .values)) (b .rows * r .arguments) (f .given))
+
+  is-high : (mostBudget < b .budget) ⊎ (mostQuota < b .quota) → highs ≡ true
+  is-high (inl h) = rw (lt-ltb mostBudget (b .budget) h)
+  is-high (inr h) = or-right (ltb mostBudget (b .budget)) _ (lt-ltb mostQuota (b .quota) h)
+
+  is-low : Low b → highs ≡ false
+  is-low l = rw (le-ltb mostBudget (b .budget) (l .rounds), le-ltb mostQuota (b .quota) (l .labels))
+
+  -- and it is the one whose reply is given
+  only-row : (q : Reply) → UnderRule b r out work q → ranReply b r out work ≡ q
+  unfolding ranReply
+  only-row _ (misfit h) = rw (is-misfit h)
+  only-row _ (high f h) = rw (is-fitting f, is-high h)
+  only-row _ (shortOut f l h) = rw (is-fitting f, is-low l, lt-ltb out (b .rows * recordSize (b .quota)) h)
+  only-row _ (shortWork f l o h) = rw (is-fitting f, is-low l, le-ltb out (b .rows * recordSize (b .quota)) o, lt-ltb work (b .rows * lineSize (columns r)) h)
+  only-row _ (done f l o w) = rw (is-fitting f, is-low l, le-ltb out (b .rows * recordSize (b .quota)) o, le-ltb work (b .rows * lineSize (columns r)) w)
+
+-- ---- of any bytes
+module _ (b : Batch) (out work : ℕ) where
+  some-reply : (q : Reply) × ToRun b out work q
+  some-reply = go (planned (b .plan)) refl
+    where
+      go : (g : Got Rule) → planned (b .plan) ≡ g → (q : Reply) × ToRun b out work q
+      go (got r n) e = let s = some-row b r out work in (s .0, under (plan-exactly (b .plan) r .0 (n, e)) (s .1))
+      go (refused k p) e = (refusal 15 0, noPlan (λ r h. let a = plan-exactly (b .plan) r .1 h in let i = a .1 in let z : _≡_ {A = ℕ} 0 1 = cc in omega arith))
+
+  only-reply : (q : Reply) → ToRun b out work q → runReply b (planned (b .plan)) out work ≡ q
+  unfolding runReply
+  only-reply q (under {r} p h) = rw (plan-exactly (b .plan) r .1 p .1) (only-row b r out work q h)
+  only-reply _ (noPlan h) = go (planned (b .plan)) refl
+    where
+      go : (g : Got Rule) → planned (b .plan) ≡ g → runReply b g out work ≡ refusal 15 0
+      go (got r n) e = absurd (h r (plan-exactly (b .plan) r .0 (n, e)))
+      go (refused k p) e = refl
+
+pub run-exactly : (b : Batch) (out work : List Word) (r : Reply) (out′ work′ : List Word) → Ran b out work r out′ work′ → (q : Reply) → (r ≡ q) ↔ ToRun b (length out) (length work) q
+run-exactly b out work r out′ work′ w q =
+    let s = some-reply b (length out) (length work) in
+    (λ e. rw (sym (only-reply b (length out) (length work) (s .0) (s .1)) ∙ sym (w .reply) ∙ e) at (s .1), λ h. w .reply ∙ only-reply b (length out) (length work) q h)

@@ -1,0 +1,85 @@
+-- From a file, and from a rule that is written first, to the records: what `compile` writes, `run` accepts as the rule that was read, and what `run` leaves
+-- is that rule's direct run. All from the contracts of the calls. Assumes nothing.
+use Prim.Native.Nat.{ℕ, _*_}
+use mathlib.Core.Path.{_≡_, refl, sym, ap, _∙_}
+use mathlib.Core.Bool.{Bool, true, false, cond, not, _||_}
+use native.Mathlib.Omega.{arith}
+use mathlib.Core.List.{List}
+use lib.Dec.{eqb, ltb}
+use lib.ListN.{length, take}
+use Rattle.paper.specs.Rule.{Rule}
+use Rattle.paper.specs.Grammar.{Got, got, ruleOf}
+use Rattle.paper.specs.Plan.{planned}
+use Rattle.paper.specs.Batch.{Word, recordSize, lineSize}
+use Rattle.paper.specs.Finder.{mostRows, mostQuota}
+use Rattle.paper.specs.Calls.{Batch, mostBudget, columns, refusal, toWrite, toCompile, Wrote, ranReply, runReply, recordsIn, tableIn, Ran}
+use Rattle.paper.specs.declared.Reply.{Reply}
+use Rattle.paper.specs.declared.Reply.the-variants.{Done, Refused}
+use Rattle.plans.specs.Promised.{ruleInFile, PlanFor}
+use Rattle.plans.proofs.Promises.{compiled, written-compiled}
+use Rattle.batches.specs.DirectRun.{DirectRun, RunsAs}
+use Rattle.batches.proofs.Promises.{direct}
+
+-- ---- a call under an accepted plan
+
+abbrev numberOf : Reply → ℕ
+numberOf (Refused f) = f .number
+numberOf (Done most) = 0
+
+-- no test that comes after the plan gives a 15
+none-15 : (a b c d : Bool) (most : ℕ) → numberOf (cond a (refusal 13 0) (cond b (refusal 14 0) (cond c (refusal 12 0) (cond d (refusal 12 1) (Done most))))) ≡ 15 → ⊥
+none-15 true b c d most e = omega arith
+none-15 false true c d most e = omega arith
+none-15 false false true d most e = omega arith
+none-15 false false false true most e = omega arith
+none-15 false false false false most e = omega arith
+
+module _ (r : Rule) (n : ℕ) (b : Batch) (out work : List Word) (reply : Reply) (out' work' : List Word) (accepted : planned (b .plan) ≡ got r n) (ran : Ran b out work reply out' work') where
+  answered : reply ≡ ranReply b r (length out) (length work)
+  unfolding runReply
+  answered = ran .reply ∙ rw accepted
+
+  accepts : (place : ℕ) → reply ≡ refusal 15 place → ⊥
+  unfolding ranReply
+  accepts place e =
+      none-15 (ltb mostRows (b .rows) || not (eqb (length (b .values)) (b .rows * r .arguments))) (ltb mostBudget (b .budget) || ltb mostQuota (b .quota))
+      (ltb (length out) (b .rows * recordSize (b .quota))) (ltb (length work) (b .rows * lineSize (columns r))) _ (ap numberOf (sym answered ∙ e))
+
+  directly : DirectRun r b out work reply out' work'
+  unfolding recordsIn tableIn
+  directly = record {
+    not-15 = accepts;
+    answer = answered;
+    results = rw accepted at (ran .result);
+    table = rw accepted at (ran .working);
+    row = λ most k e h. direct (b .plan) r n accepted _ (b .quota) (b .budget) k out' (record {
+      batch = b;
+      out = out;
+      work = work;
+      table = work';
+      most = most;
+      ran = rw e at ran;
+      plan' = refl;
+      budget = refl;
+      quota = refl;
+      within = h;
+      args' = refl;
+    });
+  }
+
+-- under a plan for a rule, every call is that rule's direct run
+runs : {read : Got Rule} {plan : List ℕ} → PlanFor read plan → RunsAs read plan
+runs p = record {
+  plan-for = p;
+  direct-run = λ b out work reply out' work' e ran. directly (p .rule) (p .end) b out work reply out' work' (ap planned e ∙ p .accepted) ran;
+}
+
+-- a file that is compiled and then run
+pub file-to-record : (file old : List ℕ) (n : ℕ) (new : List ℕ) → Wrote (toCompile file) old (Done n) new → RunsAs (ruleInFile file) (take n new)
+file-to-record file old n new w = runs (compiled file old n new w)
+
+-- a rule that is written, compiled and then run
+pub rule-to-record :
+    (s old : List ℕ) (n : ℕ) (file : List ℕ) → Wrote (toWrite s) old (Done n) file →
+    (old' : List ℕ) (m : ℕ) (plan : List ℕ) → Wrote (toCompile (take n file)) old' (Done m) plan → RunsAs (ruleOf s) (take m plan)
+rule-to-record s old n file w old' m plan c = runs (written-compiled s old n file w old' m plan c)
