@@ -9,7 +9,7 @@
 #include <time.h>
 
 enum { ROWS = 256, QUOTA = 4, REPETITIONS = 7 };
-enum { OUT_WORDS = ROWS * TAP_RECORD_WORDS(QUOTA), WORK_WORDS = ROWS * TAP_LINE_WORDS(16) };
+enum { OUT_WORDS = ROWS * TAP_RECORD_WORDS(QUOTA), WORK_WORDS = ROWS * TAP_LINE_WORDS(TAP_MOST_COLUMNS) };
 
 /* A rule, the argument of every row, which is the number of times that its loop goes round, and room for both. */
 struct trial {

@@ -17,12 +17,20 @@
 extern "C" {
 #endif
 
-/* Sizes that are always enough, in bytes and in words. */
+/* Buffers that are always long enough, in bytes. */
 #define TAP_RULE_BYTES 4064
 #define TAP_FILE_BYTES 4096
 #define TAP_PLAN_BYTES 4578
+
+/* The words of a row's record, and of its line under a plan with so many columns (tap_columns). */
 #define TAP_RECORD_WORDS(quota) (3 + (quota))
 #define TAP_LINE_WORDS(columns) (2 + (columns))
+
+/* What no batch and no plan exceeds. */
+#define TAP_MOST_ROWS 256
+#define TAP_MOST_BUDGET 65535
+#define TAP_MOST_QUOTA 16
+#define TAP_MOST_COLUMNS 16
 
 /*
  * An answer's upper half: a refusal's number, 0 if the call was accepted. A refused call has changed no buffer.
@@ -31,6 +39,7 @@ extern "C" {
  *  7 target not allowed     8 too deep               9 rule ends early
  * 10 bytes after the rule  11 rule too long         12 buffer too short (place 0 first, 1 working)
  * 13 rows or values        14 budget or quota       15 not a plan
+ * docs/USING.md says what to do about each.
  */
 static inline uint32_t tap_refusal(uint64_t answer) { return (uint32_t)(answer >> 32); }
 
@@ -46,8 +55,11 @@ uint64_t tap_write(const uint8_t *rule, size_t rule_len, uint8_t *out, size_t ou
 /* The plan of a file's rule to out. Value: the plan's size. */
 uint64_t tap_compile(const uint8_t *file, size_t file_len, uint8_t *out, size_t out_len);
 
+/* How many columns the plan's lines have: a batch needs rows * TAP_LINE_WORDS(columns) words to work in. */
+uint64_t tap_columns(const uint8_t *plan, size_t plan_len);
+
 /*
- * Runs a plan over up to 256 rows, whose arguments lie row after row in values, for at most budget rounds each.
+ * Runs a plan over up to TAP_MOST_ROWS rows, whose arguments lie row after row in values, for at most budget rounds each.
  * A row's record goes to out, TAP_RECORD_WORDS(quota) words: status (0 unfinished, 1 stopped, 2 zero divisor,
  * 3 out of range, 4 quota), rounds, number of labels, labels, zeros. An unfinished row's line goes to work,
  * TAP_LINE_WORDS(columns) words: row, next block, the plan's loop columns. Value: the most rounds of any row.

@@ -1,11 +1,11 @@
-/* Rule R of the scope document: written to a file's bytes, compiled, run over three rows, each row found again. */
+/* Rule R of the scope document: written to a file's bytes, read again, compiled, run over three rows, each row found. */
 #include "tapsquirrel.h"
 
 #include <inttypes.h>
 #include <stdio.h>
 #include <stdlib.h>
 
-enum { ROWS = 3, BUDGET = 2, QUOTA = 4, COLUMNS = 2 };
+enum { ROWS = 3, BUDGET = 2, QUOTA = 4 };
 
 static const uint8_t rule[] = {
     0x01, 0x02, 0x01, 0x04,             /* form, variables, arguments, blocks */
@@ -14,6 +14,13 @@ static const uint8_t rule[] = {
     0x21, 0x02, 0x01, 0x32,             /* 2: emit sum; stop */
     0x20, 0x01, 0x04, 0x02, 0x01, 0x02, 0x00, /* 3: set sum = sum + x */
     0x20, 0x00, 0x05, 0x02, 0x00, 0x01, 0x01, 0x00, 0x00, 0x00, 0x31, 0x01, /* set x = x - 1; jump 1 */
+};
+
+/* A batch's two buffers, and the columns that its lines have. */
+struct batch {
+    uint32_t columns;
+    size_t result_len, work_len;
+    int32_t *result, *work;
 };
 
 static uint32_t accepted(uint64_t answer)
@@ -25,40 +32,61 @@ static uint32_t accepted(uint64_t answer)
     return tap_value(answer);
 }
 
-static void print_words(const char *title, const int32_t *words, size_t count)
+static int32_t *words(size_t count)
+{
+    int32_t *room = calloc(count, sizeof *room);
+    if (room == NULL) {
+        printf("no room for %zu words\n", count);
+        exit(1);
+    }
+    return room;
+}
+
+static struct batch room_for(uint32_t columns)
+{
+    struct batch b = {.columns = columns, .result_len = ROWS * TAP_RECORD_WORDS(QUOTA), .work_len = ROWS * TAP_LINE_WORDS(columns)};
+    b.result = words(b.result_len);
+    b.work = words(b.work_len);
+    return b;
+}
+
+static void print_words(const char *title, const int32_t *from, size_t count)
 {
     printf(" %s", title);
     for (size_t i = 0; i < count; i++)
-        printf(" %" PRId32, words[i]);
+        printf(" %" PRId32, from[i]);
     printf("\n");
 }
 
-static void print_row(const int32_t *result, size_t result_len, const int32_t *work, size_t work_len, uint32_t row)
+static void print_row(const struct batch *b, uint32_t row)
 {
-    uint64_t place = tap_find(result, result_len, work, work_len, ROWS, QUOTA, COLUMNS, row);
+    uint64_t place = tap_find(b->result, b->result_len, b->work, b->work_len, ROWS, QUOTA, b->columns, row);
     printf("row %" PRIu32 ":", row);
     if (tap_buffer(place) == TAP_IN_RESULT)
-        print_words("record", result + tap_value(place), TAP_RECORD_WORDS(QUOTA));
+        print_words("record", b->result + tap_value(place), TAP_RECORD_WORDS(QUOTA));
     else if (tap_buffer(place) == TAP_IN_WORK)
-        print_words("line", work + tap_value(place), TAP_LINE_WORDS(COLUMNS));
+        print_words("line", b->work + tap_value(place), TAP_LINE_WORDS(b->columns));
     else
         printf(" nowhere\n");
 }
 
 int main(void)
 {
-    static uint8_t file[TAP_FILE_BYTES], plan[TAP_PLAN_BYTES];
+    static uint8_t file[TAP_FILE_BYTES], again[TAP_RULE_BYTES], plan[TAP_PLAN_BYTES];
     static const int32_t values[ROWS] = {2, 0, -5};
-    int32_t result[ROWS * TAP_RECORD_WORDS(QUOTA)], work[ROWS * TAP_LINE_WORDS(COLUMNS)];
-    size_t result_len = sizeof result / sizeof *result, work_len = sizeof work / sizeof *work;
 
     size_t file_len = accepted(tap_write(rule, sizeof rule, file, sizeof file));
+    size_t rule_len = accepted(tap_read(file, file_len, again, sizeof again));
     size_t plan_len = accepted(tap_compile(file, file_len, plan, sizeof plan));
-    printf("file %zu bytes, plan %zu bytes\n", file_len, plan_len);
+    struct batch b = room_for(accepted(tap_columns(plan, plan_len)));
+    printf("file %zu bytes, rule %zu bytes, plan %zu bytes, columns %" PRIu32 "\n", file_len, rule_len, plan_len, b.columns);
 
-    uint32_t rounds = accepted(tap_run(plan, plan_len, ROWS, values, ROWS, BUDGET, QUOTA, result, result_len, work, work_len));
+    uint32_t rounds = accepted(
+        tap_run(plan, plan_len, ROWS, values, ROWS, BUDGET, QUOTA, b.result, b.result_len, b.work, b.work_len));
     for (uint32_t row = 0; row <= ROWS; row++)
-        print_row(result, result_len, work, work_len, row);
+        print_row(&b, row);
     printf("rounds %" PRIu32 "\n", rounds);
+    free(b.result);
+    free(b.work);
     return 0;
 }

@@ -10,18 +10,18 @@ use borrow.Author.Tests.{ltb-false}
 use lib.IntN.{pos}
 use lib.ListN.{length, take, drop, set, getD, replicate}
 use lib.Seq.{take-suc-set}
-use Rattle.paper.specs.Values.{Val}
-use Rattle.paper.specs.Rule.{Rule}
-use Rattle.paper.specs.Grammar.{Got, got, refused, constantIn}
-use Rattle.paper.specs.Plan.{planned}
-use Rattle.paper.specs.Batch.{Word}
-use Rattle.paper.specs.Finder.{mostRows, mostQuota}
-use Rattle.paper.specs.Calls.{Batch, refusal, mostBudget, Ran, Wrote, runReply, ranReply, recordsIn, toCompile, replyIn}
-use Rattle.paper.specs.declared.Refusal.{Refusal}
-use Rattle.paper.specs.declared.Reply.{Reply}
-use Rattle.paper.specs.declared.Reply.the-variants.{Done, Refused}
+use Rattle.definitions.specs.Values.{Val}
+use Rattle.definitions.specs.Rule.{Rule}
+use Rattle.definitions.specs.Grammar.{Got, got, refused, constantIn}
+use Rattle.definitions.specs.Plan.{planned}
+use Rattle.definitions.specs.Batch.{Word}
+use Rattle.definitions.specs.Finder.{mostRows, mostQuota}
+use Rattle.definitions.specs.Calls.{Batch, refusal, mostBudget, Ran, Wrote, runReply, ranReply, recordsIn, toCompile, replyIn}
+use Rattle.definitions.specs.declared.Refusal.{Refusal}
+use Rattle.definitions.specs.declared.Reply.{Reply}
+use Rattle.definitions.specs.declared.Reply.the-variants.{Done, Refused}
 use Rattle.rules.proofs.Promises.{done-bytes}
-use Rattle.texts.specs.Text.{wordsText, lineText, linesText, recordAt, answerText, refusalText}
+use Rattle.printing.specs.Text.{wordsText, lineText, linesText, recordAt, answerText, refusalText}
 use Rattle.answers.specs.Answer.{numberIn, valuesIn, noBatch, batchIn, planRoom, resultRoom, workRoom, ranAnswer, batchAnswer, inputAnswer, fileAnswer, answerTo}
 
 -- ---- the values

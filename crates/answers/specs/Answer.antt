@@ -4,14 +4,14 @@ use mathlib.Core.Bool.{Bool, cond, not, _||_}
 use mathlib.Core.List.{List, [], _∷_, _++_}
 use lib.Dec.{eqb, ltb}
 use lib.ListN.{length, getD}
-use Rattle.paper.specs.Values.{Val}
-use Rattle.paper.specs.Grammar.{wordOf, constantIn}
-use Rattle.paper.specs.Plan.{planned}
-use Rattle.paper.specs.Batch.{Word}
-use Rattle.paper.specs.Calls.{Batch, toCompile, replyIn, bytesIn, runReply, recordsIn}
-use Rattle.paper.specs.declared.Reply.{Reply}
-use Rattle.paper.specs.declared.Reply.the-variants.{Done, Refused}
-use Rattle.texts.specs.Text.{answerText, refusalText}
+use Rattle.definitions.specs.Values.{Val}
+use Rattle.definitions.specs.Grammar.{wordOf, constantIn}
+use Rattle.definitions.specs.Plan.{planned}
+use Rattle.definitions.specs.Batch.{Word}
+use Rattle.definitions.specs.Calls.{Batch, toCompile, replyIn, bytesIn, runReply, recordsIn}
+use Rattle.definitions.specs.declared.Reply.{Reply}
+use Rattle.definitions.specs.declared.Reply.the-variants.{Done, Refused}
+use Rattle.printing.specs.Text.{answerText, refusalText}
 
 -- ---- the input: rows, budget and quota, then the values
 

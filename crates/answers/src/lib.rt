@@ -1,8 +1,9 @@
 // What the program prints: for a file and an input, the text of the batch's result or of a refusal.
 mod files;
 
+use definitions::LONGEST_PLAN;
+use definitions::Reply;
 pub use files::print;
-use paper::Reply;
 ghost use mathlib.Core.Path.{_≡_};
 ghost use Prim.Native.Nat.{_+_, _*_, _≤_};
 ghost use lib.ListN.{length, take};
@@ -48,8 +49,8 @@ fn put_batch(
     let mut work = [0i32; 4608];
     let reply = batches::run(plan, rows, values, budget, quota, &mut result, &mut work);
     match reply {
-        Reply::Refused(f) => texts::put_refusal(f.number, f.place, out),
-        Reply::Done(most) => texts::put_answer(&result, rows, quota, most, out),
+        Reply::Refused(f) => printing::put_refusal(f.number, f.place, out),
+        Reply::Done(most) => printing::put_answer(&result, rows, quota, most, out),
     }
 }
 
@@ -89,7 +90,7 @@ fn put_input(plan: &[u8], input: &[u8], out: &mut [u8]) -> usize
     ensures { λ r. ⌜ take r (now (out .exit)) ≡ inputAnswer (now (plan .entry)) (now (input .entry)) ⌝ }
 {
     if is_cut(input.len()) {
-        return texts::put_refusal(13, 0, out);
+        return printing::put_refusal(13, 0, out);
     }
     put_whole(plan, input, out)
 }
@@ -100,10 +101,10 @@ pub fn answer(file: &[u8], input: &[u8], out: &mut [u8]) -> usize
     ensures { λ r. ⌜ Counts r (now (out .exit)) ⌝ }
     ensures { λ r. ⌜ take r (now (out .exit)) ≡ answerTo (now (file .entry)) (now (input .entry)) ⌝ }
 {
-    let mut plan = [0u8; 4578];
+    let mut plan = [0u8; LONGEST_PLAN];
     let reply = plans::compile(file, &mut plan);
     match reply {
-        Reply::Refused(f) => texts::put_refusal(f.number, f.place, out),
+        Reply::Refused(f) => printing::put_refusal(f.number, f.place, out),
         Reply::Done(size) => put_input(&plan[..size], input, out),
     }
 }

@@ -5,15 +5,14 @@ use native.Mathlib.Omega.{arith}
 use mathlib.Core.List.{List}
 use lib.ListN.{length, take, getD, length-take}
 use lib.Seq.{getD-take}
-use Rattle.paper.specs.Rule.{End, Goto, Jump, Stop, If, Rule}
-use Rattle.paper.specs.Grammar.{got, longest}
-use Rattle.paper.specs.Columns.{flowOf, LC}
-use Rattle.paper.specs.Plan.{bitOf, carried, planned}
-use Rattle.paper.specs.Pages.{wordAt}
-use Rattle.paper.specs.Batch.{countTo}
-use Rattle.paper.specs.Calls.{columns}
-use Rattle.paper.proofs.Counts.{count-le}
-use Rattle.paper.proofs.Masks.{mask-count}
+use Rattle.definitions.specs.Rule.{End, Goto, Jump, Stop, If, Rule}
+use Rattle.definitions.specs.Grammar.{got, longest}
+use Rattle.definitions.specs.Columns.{flowOf, LC}
+use Rattle.definitions.specs.Plan.{bitOf, carried, planned}
+use Rattle.definitions.specs.Pages.{wordAt}
+use Rattle.definitions.specs.Batch.{countTo}
+use Rattle.definitions.specs.Calls.{columns}
+use Rattle.definitions.proofs.Counts.{count-le}
 use Rattle.plans.specs.Accepted.{ruleIn, Accepted}
 use Rattle.plans.proofs.Accepted.{is-plan}
 use Rattle.plans.proofs.Proper.{proper}
@@ -21,7 +20,7 @@ use Rattle.plans.specs.Taken.{Taking}
 use Rattle.rounds.specs.Round.{Lies}
 use Rattle.plans.specs.declared.Taken.{Taken}
 use Rattle.plans.specs.declared.Taken.the-variants as taken
-use Rattle.plans.proofs.Carried.{carried-rule, carried-in, head-fits, at-variables, at-arguments, at-lc}
+use Rattle.plans.proofs.Carried.{carried-rule, carried-in, head-fits, at-variables, at-arguments, at-lc, columns-counted}
 use Rattle.columns.specs.Proper.{Proper}
 use Rattle.batches.specs.Layout.{width, Known}
 
@@ -52,7 +51,7 @@ module _ {plan : List ℕ} (a : Accepted plan) where
   -- what the code reads of the plan is what its rows' layout depends on
   module _ (lc place : ℕ) (el : lc ≡ wordAt plan 4) (ep : place ≡ countTo (getD plan 1 0) (bitOf lc)) where
     place-is : place ≡ columns r
-    place-is = ep ∙ rw (at-variables plan a, el, at-lc plan a) (mask-count (r .variables) (LC (flowOf r)) (r .variables) (omega arith))
+    place-is = columns-counted plan a lc place el ep
 
     pub size-is : 2 + place ≡ width r
     size-is = ap (λ (n : ℕ). 2 + n) place-is

@@ -5,7 +5,7 @@ use native.Mathlib.Omega.{arith}
 use mathlib.Core.List.{List, _++_, append-assoc}
 use lib.ListN.{length, take, drop, getD, length-append, length-take, length-drop, take-append-drop}
 use lib.Seq.{take-append-seam, drop-append-add, take-at, drop-at, drop-drop, length-take-le, getD-drop, getD-take}
-use Rattle.words.specs.Words.{over}
+use Rattle.buffers.specs.Words.{over}
 
 module _ {A : Type 0} where
   -- ---- writes

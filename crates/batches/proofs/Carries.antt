@@ -9,11 +9,11 @@ use lib.Dec.{eqb}
 use lib.ListN.{length, take}
 use lib.Seq.{length-take-le}
 use borrow.Author.Tests.{eqb-true, eqb-false, eq-eqb, ne-eqb}
-use Rattle.paper.specs.Values.{Val}
-use Rattle.paper.specs.Rule.{Rule, size}
-use Rattle.paper.specs.Columns.{flowOf, inputsOf, LC}
-use Rattle.paper.specs.Direct.{State, Round, jumped, finished, walk, joined, after, unfinished}
-use Rattle.paper.proofs.Columns.{shared, entry-in-J}
+use Rattle.definitions.specs.Values.{Val}
+use Rattle.definitions.specs.Rule.{Rule, size}
+use Rattle.definitions.specs.Columns.{flowOf, inputsOf, LC}
+use Rattle.definitions.specs.Direct.{State, Round, jumped, finished, walk, joined, after, unfinished}
+use Rattle.definitions.proofs.Columns.{shared}
 use Rattle.columns.specs.OnPlan.{planWalk}
 use Rattle.columns.specs.Proper.{Proper}
 use Rattle.columns.specs.Row.{Sound}
@@ -94,9 +94,9 @@ module _ {r : Rule} {q : ℕ} {s : State} {labels vars : List Val} (ok : Proper 
 
     both : Rounds r (roundOf r q here) (planWalk (size r) r q (here .block) vars (here .labels))
     both =
-        walk-alike r ok (size r) q (here .block) (here .vars) vars (here .labels) (here-sound .block-below) (omega arith)
+        walk-alike r ok (size r) q (here .block) (here .vars) vars (here .labels) (here-sound .block-below) (ok .ranked .below _ (here-sound .block-below))
         (alike-less (r .variables) (LC (flowOf r)) (inputsOf (flowOf r) (here .block)) (here .vars) vars
-        (λ k i p. sym (shared (flowOf r) (entry-in-J r) (here .block) k (here-sound .block-below) i (here-sound .block-in-J)) ∙ p) (w .vars' going))
+        (λ k i p. sym (shared (flowOf r) (here .block) k (here-sound .block-below) i (here-sound .block-in-J)) ∙ p) (w .vars' going))
 
     same-round : planWalk (size r) r q (c .block) vars (take (c .count) labels) ≡ planWalk (size r) r q (here .block) vars (here .labels)
     same-round = rw (w .block going, w .labels')

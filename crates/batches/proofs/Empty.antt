@@ -10,9 +10,9 @@ use lib.Dec.{eqb, leb}
 use denote.Ref.{RefT}
 use mathlib.Core.Logic.{⊎-elim}
 use borrow.Author.Tests.{eqb-true, eqb-false, eq-eqb, leb-true, lt-ltb, le-leb}
-use Rattle.paper.specs.Batch.{Word, recordSize, lineSize}
-use Rattle.paper.specs.Finder.{isNumber, Part, isLine, lineIndex, foundIn, mostRows, mostQuota, mostColumns}
-use Rattle.paper.proofs.Tests.{and-parts, and-both, clash, not-so, less-or}
+use Rattle.definitions.specs.Batch.{Word, recordSize, lineSize}
+use Rattle.definitions.specs.Finder.{isNumber, Part, isLine, lineIndex, foundIn, mostRows, mostQuota, mostColumns}
+use Rattle.definitions.proofs.Tests.{and-parts, and-both, clash, not-so, less-or}
 use Rattle.batches.specs.Limits.{within}
 use Rattle.batches.proofs.Finds.{is-within, found-none, found-line, found-record, line-found, line-lost}
 

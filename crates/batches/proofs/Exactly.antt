@@ -8,14 +8,14 @@ use native.Mathlib.Omega.{arith}
 use lib.Dec.{eqb, ltb}
 use lib.ListN.{length}
 use borrow.Author.Tests.{eqb-true, eqb-false, eq-eqb, ne-eqb, lt-ltb, le-ltb}
-use Rattle.paper.specs.Rule.{Rule}
-use Rattle.paper.specs.Grammar.{Got, got, refused}
-use Rattle.paper.specs.Plan.{planned}
-use Rattle.paper.specs.Batch.{Word, recordSize, lineSize}
-use Rattle.paper.specs.Finder.{mostRows, mostQuota}
-use Rattle.paper.specs.Calls.{Batch, Ran, ranReply, runReply, mostBudget, columns, refusal}
-use Rattle.paper.specs.declared.Reply.{Reply}
-use Rattle.paper.proofs.Tests.{or-right, less-or}
+use Rattle.definitions.specs.Rule.{Rule}
+use Rattle.definitions.specs.Grammar.{Got, got, refused}
+use Rattle.definitions.specs.Plan.{planned}
+use Rattle.definitions.specs.Batch.{Word, recordSize, lineSize}
+use Rattle.definitions.specs.Finder.{mostRows, mostQuota}
+use Rattle.definitions.specs.Calls.{Batch, Ran, ranReply, runReply, mostBudget, columns, refusal}
+use Rattle.definitions.specs.declared.Reply.{Reply}
+use Rattle.definitions.proofs.Tests.{or-right, less-or}
 use Rattle.plans.proofs.Planned.{plan-exactly}
 use Rattle.batches.specs.Replies.{Fitting, Low, UnderRule, misfit, high, shortOut, shortWork, done, ToRun, noPlan, under}
 

@@ -7,14 +7,14 @@ use native.Mathlib.Omega.{arith}
 use mathlib.Core.List.{List}
 use lib.Dec.{eqb, ltb}
 use lib.ListN.{length, take}
-use Rattle.paper.specs.Rule.{Rule}
-use Rattle.paper.specs.Grammar.{Got, got, ruleOf}
-use Rattle.paper.specs.Plan.{planned}
-use Rattle.paper.specs.Batch.{Word, recordSize, lineSize}
-use Rattle.paper.specs.Finder.{mostRows, mostQuota}
-use Rattle.paper.specs.Calls.{Batch, mostBudget, columns, refusal, toWrite, toCompile, Wrote, ranReply, runReply, recordsIn, tableIn, Ran}
-use Rattle.paper.specs.declared.Reply.{Reply}
-use Rattle.paper.specs.declared.Reply.the-variants.{Done, Refused}
+use Rattle.definitions.specs.Rule.{Rule}
+use Rattle.definitions.specs.Grammar.{Got, got, ruleOf}
+use Rattle.definitions.specs.Plan.{planned}
+use Rattle.definitions.specs.Batch.{Word, recordSize, lineSize}
+use Rattle.definitions.specs.Finder.{mostRows, mostQuota}
+use Rattle.definitions.specs.Calls.{Batch, mostBudget, columns, refusal, toWrite, toCompile, Wrote, ranReply, runReply, recordsIn, tableIn, Ran}
+use Rattle.definitions.specs.declared.Reply.{Reply}
+use Rattle.definitions.specs.declared.Reply.the-variants.{Done, Refused}
 use Rattle.plans.specs.Promised.{ruleInFile, PlanFor}
 use Rattle.plans.proofs.Promises.{compiled, written-compiled}
 use Rattle.batches.specs.DirectRun.{DirectRun, RunsAs}

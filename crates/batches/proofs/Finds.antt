@@ -14,9 +14,9 @@ use mir.Val.{ofZ, toZ}
 use mir.Facts.{toZ-ofZ}
 use denote.Ref.{RefT}
 use borrow.Author.Tests.{ne-eqb, leb-true, ltb-true, lt-ltb, le-ltb, le-leb, lt-leb}
-use Rattle.paper.specs.Batch.{Word, recordSize, lineSize}
-use Rattle.paper.specs.Finder.{isNumber, Part, partOf, isLine, lineIndex, linePart, foundIn, mostRows, mostQuota, mostColumns}
-use Rattle.paper.proofs.Tests.{and-parts}
+use Rattle.definitions.specs.Batch.{Word, recordSize, lineSize}
+use Rattle.definitions.specs.Finder.{isNumber, Part, partOf, isLine, lineIndex, linePart, foundIn, mostRows, mostQuota, mostColumns}
+use Rattle.definitions.proofs.Tests.{and-parts}
 use Rattle.batches.specs.Limits.{within}
 
 -- a word's bits are a small number's exactly if the word is that number

@@ -9,17 +9,17 @@ use lib.IntN.{pos}
 use lib.ListN.{length, drop, getD, length-append, length-drop}
 use denote.Ref.{RefT}
 use borrow.Author.Tests.{eq-eqb, ne-eqb, lt-ltb, le-leb}
-use Rattle.paper.specs.Values.{Val}
-use Rattle.paper.specs.Rule.{Rule}
-use Rattle.paper.specs.Grammar.{got}
-use Rattle.paper.specs.Columns.{flowOf, LC}
-use Rattle.paper.specs.Plan.{planned}
-use Rattle.paper.specs.Direct.{State, unfinished, start, after}
-use Rattle.paper.specs.Batch.{Word, goesOn, recordSize, lineSize, recordOf, lineOf, liveOf, statesOf}
-use Rattle.paper.specs.Finder.{Part, isNumber, foundIn, mostRows, mostQuota, mostColumns}
-use Rattle.paper.specs.Calls.{Batch, columns, tableIn}
-use Rattle.paper.specs.declared.Reply.the-variants.{Done}
-use Rattle.paper.proofs.Counts.{count-le}
+use Rattle.definitions.specs.Values.{Val}
+use Rattle.definitions.specs.Rule.{Rule}
+use Rattle.definitions.specs.Grammar.{got}
+use Rattle.definitions.specs.Columns.{flowOf, LC}
+use Rattle.definitions.specs.Plan.{planned}
+use Rattle.definitions.specs.Direct.{State, unfinished, start, after}
+use Rattle.definitions.specs.Batch.{Word, goesOn, recordSize, lineSize, recordOf, lineOf, liveOf, statesOf}
+use Rattle.definitions.specs.Finder.{Part, isNumber, foundIn, mostRows, mostQuota, mostColumns}
+use Rattle.definitions.specs.Calls.{Batch, columns, tableIn}
+use Rattle.definitions.specs.declared.Reply.the-variants.{Done}
+use Rattle.definitions.proofs.Counts.{count-le}
 use Rattle.batches.specs.Layout.{linesIn}
 use Rattle.batches.specs.Limits.{within}
 use Rattle.batches.specs.Replies.{ToRun, under, done}

@@ -12,11 +12,11 @@ use lib.Seq.{getD-drop}
 use mir.Syntax.{w32}
 use mir.Val.{toZ}
 use mir.Facts.{toZ-pos}
-use Rattle.words.specs.Words.{over}
-use Rattle.words.proofs.Laws.{over-set, over-next, over-pair, length-over}
-use Rattle.paper.specs.Values.{Val}
-use Rattle.paper.specs.Batch.{Word, countTo, columnsOf}
-use Rattle.paper.proofs.Counts.{count-before, columns-length}
+use Rattle.buffers.specs.Words.{over}
+use Rattle.buffers.proofs.Laws.{over-set, over-next, over-pair, length-over}
+use Rattle.definitions.specs.Values.{Val}
+use Rattle.definitions.specs.Batch.{Word, countTo, columnsOf}
+use Rattle.definitions.proofs.Counts.{count-before, columns-length}
 use Rattle.columns.specs.OnPlan.{spread}
 
 -- ---- the columns, one variable after the other

@@ -9,16 +9,16 @@ use lib.IntN.{pos, natAbs}
 use lib.ListN.{length, take, drop, getD, replicate, length-append, length-replicate}
 use lib.Seq.{take-at, getD-append-add, getD-drop}
 use lib.Signed.{nonNeg}
-use Rattle.words.specs.Words.{over}
-use Rattle.words.proofs.Laws.{over-start, length-over}
-use Rattle.paper.specs.Values.{Val}
-use Rattle.paper.specs.Rule.{Rule}
-use Rattle.paper.specs.Columns.{flowOf, LC}
-use Rattle.paper.specs.Plan.{bitOf}
-use Rattle.paper.specs.Direct.{State}
-use Rattle.paper.specs.Batch.{Word, recordSize, recordOf, countTo, columnsOf}
-use Rattle.paper.proofs.Masks.{read-back, mask-count}
-use Rattle.paper.proofs.Counts.{columns-length, count-le, count-before}
+use Rattle.buffers.specs.Words.{over}
+use Rattle.buffers.proofs.Laws.{over-start, length-over}
+use Rattle.definitions.specs.Values.{Val}
+use Rattle.definitions.specs.Rule.{Rule}
+use Rattle.definitions.specs.Columns.{flowOf, LC}
+use Rattle.definitions.specs.Plan.{bitOf}
+use Rattle.definitions.specs.Direct.{State}
+use Rattle.definitions.specs.Batch.{Word, recordSize, recordOf, countTo, columnsOf}
+use Rattle.definitions.proofs.Masks.{read-back, mask-count}
+use Rattle.definitions.proofs.Counts.{columns-length, count-le, count-before}
 use Rattle.columns.specs.OnPlan.{spread}
 use Rattle.columns.specs.Row.{Sound}
 use Rattle.columns.specs.Alike.{Alike}

@@ -5,9 +5,9 @@ use native.Mathlib.Omega.{arith}
 use native.Mathlib.Nat.{mul-le-mul-right}
 use mathlib.Core.List.{List, [], _∷_, _++_, map}
 use lib.ListN.{length, length-map}
-use Rattle.paper.specs.Rule.{Rule}
-use Rattle.paper.specs.Direct.{State, after}
-use Rattle.paper.specs.Batch.{Word, recordsOf, liveOf, mostOf}
+use Rattle.definitions.specs.Rule.{Rule}
+use Rattle.definitions.specs.Direct.{State, after}
+use Rattle.definitions.specs.Batch.{Word, recordsOf, liveOf, mostOf}
 use Rattle.columns.specs.Proper.{Proper}
 use Rattle.columns.specs.Row.{Sound}
 use Rattle.columns.proofs.Rows.{after-add}

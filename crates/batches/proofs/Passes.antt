@@ -9,11 +9,11 @@ use lib.ListN.{length, take, drop, length-append, length-map, take-append-drop}
 use lib.Seq.{take-at, drop-at, drop-drop}
 use lib.Dec.{eqb}
 use borrow.Author.Tests.{eqb-true, eq-eqb, ne-eqb}
-use Rattle.words.specs.Words.{over}
-use Rattle.words.proofs.Laws.{drop-over}
-use Rattle.paper.specs.Rule.{Rule}
-use Rattle.paper.specs.Direct.{State}
-use Rattle.paper.specs.Batch.{Word, goesOn, recordSize, recordOf, recordsOf, linesFrom, liveOf, mostOf}
+use Rattle.buffers.specs.Words.{over}
+use Rattle.buffers.proofs.Laws.{drop-over}
+use Rattle.definitions.specs.Rule.{Rule}
+use Rattle.definitions.specs.Direct.{State}
+use Rattle.definitions.specs.Batch.{Word, goesOn, recordSize, recordOf, recordsOf, linesFrom, liveOf, mostOf}
 use Rattle.columns.specs.Row.{Sound}
 use Rattle.batches.specs.Layout.{width, lineIn, linesIn}
 use Rattle.batches.specs.Table.{All, RowAt, Turned, Table, Passed}

@@ -10,16 +10,16 @@ use lib.ListN.{length, take, drop, getD, replicate, length-map, length-take}
 use lib.Seq.{take-append-seam}
 use lib.Dec.{ltb}
 use borrow.Author.Tests.{ltb-true, ltb-false, ne-eqb}
-use Rattle.paper.specs.Values.{Val}
-use Rattle.paper.specs.Rule.{Rule}
-use Rattle.paper.specs.Grammar.{got}
-use Rattle.paper.specs.Plan.{planned}
-use Rattle.paper.specs.Direct.{State, start, after}
-use Rattle.paper.specs.Batch.{Word, goesOn, recordSize, recordOf, recordsOf, startAt, startsOf}
-use Rattle.paper.specs.Calls.{Batch, Ran, recordsIn}
-use Rattle.paper.specs.declared.Refusal.{Refusal}
-use Rattle.paper.specs.declared.Reply.{Reply}
-use Rattle.paper.specs.declared.Reply.the-variants.{Done, Refused}
+use Rattle.definitions.specs.Values.{Val}
+use Rattle.definitions.specs.Rule.{Rule}
+use Rattle.definitions.specs.Grammar.{got}
+use Rattle.definitions.specs.Plan.{planned}
+use Rattle.definitions.specs.Direct.{State, start, after}
+use Rattle.definitions.specs.Batch.{Word, goesOn, recordSize, recordOf, recordsOf, startAt, startsOf}
+use Rattle.definitions.specs.Calls.{Batch, Ran, recordsIn}
+use Rattle.definitions.specs.declared.Refusal.{Refusal}
+use Rattle.definitions.specs.declared.Reply.{Reply}
+use Rattle.definitions.specs.declared.Reply.the-variants.{Done, Refused}
 use Rattle.columns.specs.Proper.{Proper}
 use Rattle.columns.specs.Row.{Sound}
 use Rattle.columns.proofs.Rows.{Grown, after-add, after-done, after-grown, run-sound}

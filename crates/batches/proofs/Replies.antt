@@ -7,16 +7,16 @@ use mathlib.Core.List.{List}
 use lib.ListN.{length}
 use lib.Dec.{eqb, ltb}
 use borrow.Author.Tests.{ltb-false, eqb-true, not-false}
-use Rattle.paper.specs.Values.{Val}
-use Rattle.paper.specs.Rule.{Rule}
-use Rattle.paper.specs.Grammar.{got, refused}
-use Rattle.paper.specs.Plan.{planned}
-use Rattle.paper.specs.Batch.{Word, recordSize, mostOf}
-use Rattle.paper.specs.Finder.{mostRows, mostQuota}
-use Rattle.paper.specs.Calls.{Batch, Ran, ranReply, runReply, recordsIn, tableIn, mostBudget, refusal, rowsOf}
-use Rattle.paper.specs.declared.Refusal.{Refusal}
-use Rattle.paper.specs.declared.Reply.{Reply}
-use Rattle.paper.specs.declared.Reply.the-variants.{Done, Refused}
+use Rattle.definitions.specs.Values.{Val}
+use Rattle.definitions.specs.Rule.{Rule}
+use Rattle.definitions.specs.Grammar.{got, refused}
+use Rattle.definitions.specs.Plan.{planned}
+use Rattle.definitions.specs.Batch.{Word, recordSize, mostOf}
+use Rattle.definitions.specs.Finder.{mostRows, mostQuota}
+use Rattle.definitions.specs.Calls.{Batch, Ran, ranReply, runReply, recordsIn, tableIn, mostBudget, refusal, rowsOf}
+use Rattle.definitions.specs.declared.Refusal.{Refusal}
+use Rattle.definitions.specs.declared.Reply.{Reply}
+use Rattle.definitions.specs.declared.Reply.the-variants.{Done, Refused}
 use Rattle.batches.specs.Layout.{width}
 use Rattle.batches.specs.Runs.{tested, Allowed, Left}
 

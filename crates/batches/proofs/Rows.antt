@@ -5,10 +5,10 @@ use Prim.Native.Nat.{ℕ, _+_, _*_, _≤_, _<_, max}
 use native.Mathlib.Omega.{arith}
 use mathlib.Core.List.{List, [], _∷_, _++_, map, append-assoc}
 use lib.ListN.{length, length-append}
-use Rattle.paper.specs.Rule.{Rule}
-use Rattle.paper.specs.Columns.{flowOf, LC}
-use Rattle.paper.specs.Direct.{State}
-use Rattle.paper.specs.Batch.{Word, goesOn, recordSize, recordOf, recordsOf, linesFrom, liveOf, mostOf}
+use Rattle.definitions.specs.Rule.{Rule}
+use Rattle.definitions.specs.Columns.{flowOf, LC}
+use Rattle.definitions.specs.Direct.{State}
+use Rattle.definitions.specs.Batch.{Word, goesOn, recordSize, recordOf, recordsOf, linesFrom, liveOf, mostOf}
 use Rattle.columns.specs.Row.{Sound}
 use Rattle.batches.specs.Layout.{width, lineIn, linesIn}
 use Rattle.batches.specs.Table.{All}

@@ -8,13 +8,13 @@ use lib.IntN.{pos}
 use lib.ListN.{length, take, drop, replicate, length-append, length-replicate, length-map}
 use lib.Seq.{take-at, drop-at}
 use lib.Dec.{eqb, ltb}
-use Rattle.words.specs.Words.{over}
-use Rattle.paper.specs.Values.{Val}
-use Rattle.paper.specs.Rule.{Rule}
-use Rattle.paper.specs.Columns.{flowOf, LC}
-use Rattle.paper.specs.Direct.{State, after}
-use Rattle.paper.specs.Batch.{Word, recordSize, recordsOf, liveOf, mostOf, startsOf, statesOf, tableOf}
-use Rattle.paper.specs.Calls.{mostBudget}
+use Rattle.buffers.specs.Words.{over}
+use Rattle.definitions.specs.Values.{Val}
+use Rattle.definitions.specs.Rule.{Rule}
+use Rattle.definitions.specs.Columns.{flowOf, LC}
+use Rattle.definitions.specs.Direct.{State, after}
+use Rattle.definitions.specs.Batch.{Word, recordSize, recordsOf, liveOf, mostOf, startsOf, statesOf, tableOf}
+use Rattle.definitions.specs.Calls.{mostBudget}
 use Rattle.columns.specs.Proper.{Proper}
 use Rattle.columns.specs.Row.{Sound}
 use Rattle.batches.specs.Layout.{width, linesIn}

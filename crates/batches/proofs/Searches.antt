@@ -10,11 +10,11 @@ use lib.ListN.{length, take, drop, length-append, length-map}
 use lib.Seq.{getD-at}
 use denote.Ref.{RefT}
 use borrow.Author.Tests.{eq-eqb, ne-eqb}
-use Rattle.paper.specs.Values.{Val}
-use Rattle.paper.specs.Rule.{Rule}
-use Rattle.paper.specs.Direct.{State, start, after}
-use Rattle.paper.specs.Batch.{Word, goesOn, linesFrom, liveOf, startAt, statesOf}
-use Rattle.paper.specs.Finder.{isNumber, isLine, lineIndex, linePart}
+use Rattle.definitions.specs.Values.{Val}
+use Rattle.definitions.specs.Rule.{Rule}
+use Rattle.definitions.specs.Direct.{State, start, after}
+use Rattle.definitions.specs.Batch.{Word, goesOn, linesFrom, liveOf, startAt, statesOf}
+use Rattle.definitions.specs.Finder.{isNumber, isLine, lineIndex, linePart}
 use Rattle.batches.specs.Layout.{width, lineIn, linesIn}
 use Rattle.batches.proofs.Finds.{if-whole, line-found}
 use Rattle.batches.proofs.Buffers.{part-mid}

@@ -7,14 +7,14 @@ use mathlib.Core.List.{List, [], _∷_, _++_, append-assoc, append-nil}
 use lib.IntN.{pos}
 use lib.ListN.{length, take, drop, getD, replicate, length-append, length-take, length-drop, length-replicate, replicate-append-replicate}
 use lib.Seq.{drop-drop, getD-drop}
-use Rattle.words.specs.Words.{over}
-use Rattle.words.proofs.Laws.{over-start}
-use Rattle.paper.specs.Values.{Val}
-use Rattle.paper.specs.Rule.{Rule}
-use Rattle.paper.specs.Columns.{flowOf, LC}
-use Rattle.paper.specs.Plan.{bitOf}
-use Rattle.paper.specs.Direct.{State, start}
-use Rattle.paper.specs.Batch.{Word, recordSize, recordOf, recordsOf, linesFrom, liveOf, mostOf, startAt, startsOf, columnsOf}
+use Rattle.buffers.specs.Words.{over}
+use Rattle.buffers.proofs.Laws.{over-start}
+use Rattle.definitions.specs.Values.{Val}
+use Rattle.definitions.specs.Rule.{Rule}
+use Rattle.definitions.specs.Columns.{flowOf, LC}
+use Rattle.definitions.specs.Plan.{bitOf}
+use Rattle.definitions.specs.Direct.{State, start}
+use Rattle.definitions.specs.Batch.{Word, recordSize, recordOf, recordsOf, linesFrom, liveOf, mostOf, startAt, startsOf, columnsOf}
 use Rattle.columns.specs.Proper.{Proper}
 use Rattle.columns.specs.Row.{Sound}
 use Rattle.columns.specs.Alike.{Alike}

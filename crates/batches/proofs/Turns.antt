@@ -8,15 +8,15 @@ use mathlib.Core.List.{List, _∷_, _++_}
 use lib.IntN.{pos}
 use lib.ListN.{length, take, replicate}
 use borrow.Author.Tests.{eq-eqb, ne-eqb}
-use Rattle.words.specs.Words.{over}
-use Rattle.paper.specs.Values.{Val}
-use Rattle.paper.specs.Rule.{Rule}
-use Rattle.paper.specs.Columns.{flowOf, LC}
-use Rattle.paper.specs.Plan.{bitOf}
-use Rattle.paper.specs.Direct.{State, Round, jumped, finished, joined, advance, after}
-use Rattle.paper.specs.Batch.{Word, goesOn, recordSize, recordOf, countTo, lineSize, columnsOf}
-use Rattle.paper.specs.Calls.{mostBudget}
-use Rattle.paper.proofs.Counts.{count-le}
+use Rattle.buffers.specs.Words.{over}
+use Rattle.definitions.specs.Values.{Val}
+use Rattle.definitions.specs.Rule.{Rule}
+use Rattle.definitions.specs.Columns.{flowOf, LC}
+use Rattle.definitions.specs.Plan.{bitOf}
+use Rattle.definitions.specs.Direct.{State, Round, jumped, finished, joined, advance, after}
+use Rattle.definitions.specs.Batch.{Word, goesOn, recordSize, recordOf, countTo, lineSize, columnsOf}
+use Rattle.definitions.specs.Calls.{mostBudget}
+use Rattle.definitions.proofs.Counts.{count-le}
 use Rattle.columns.specs.Proper.{Proper}
 use Rattle.columns.specs.Row.{Sound}
 use Rattle.columns.proofs.Rows.{roundOf, advance-on, advance-done, after-done, after-sound}

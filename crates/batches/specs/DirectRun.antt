@@ -3,14 +3,14 @@ use Prim.Native.Nat.{ℕ, _*_, _<_}
 use mathlib.Core.Path.{_≡_}
 use mathlib.Core.List.{List}
 use lib.ListN.{length, take, drop}
-use Rattle.paper.specs.Rule.{Rule}
-use Rattle.paper.specs.Grammar.{Got}
-use Rattle.paper.specs.Columns.{flowOf, LC}
-use Rattle.paper.specs.Direct.{after}
-use Rattle.paper.specs.Batch.{Word, startAt, recordSize, recordOf, recordsOf, tableOf}
-use Rattle.paper.specs.Calls.{Batch, refusal, left, rowsOf, ranReply, Ran}
-use Rattle.paper.specs.declared.Reply.{Reply}
-use Rattle.paper.specs.declared.Reply.the-variants.{Done}
+use Rattle.definitions.specs.Rule.{Rule}
+use Rattle.definitions.specs.Grammar.{Got}
+use Rattle.definitions.specs.Columns.{flowOf, LC}
+use Rattle.definitions.specs.Direct.{after}
+use Rattle.definitions.specs.Batch.{Word, startAt, recordSize, recordOf, recordsOf, tableOf}
+use Rattle.definitions.specs.Calls.{Batch, refusal, left, rowsOf, ranReply, Ran}
+use Rattle.definitions.specs.declared.Reply.{Reply}
+use Rattle.definitions.specs.declared.Reply.the-variants.{Done}
 use Rattle.plans.specs.Promised.{PlanFor}
 
 -- what a call left is the direct run's of the rule r: its plan is not refused; its answer and every word of both buffers come from r's rows;

@@ -2,12 +2,12 @@
 use Prim.Native.Nat.{ℕ, _≤_}
 use mathlib.Core.Path.{_≡_}
 use mathlib.Core.List.{List}
-use Rattle.paper.specs.Rule.{Rule, size}
-use Rattle.paper.specs.Columns.{flowOf, LC}
-use Rattle.paper.specs.Plan.{maskOf, carried}
-use Rattle.paper.specs.Direct.{State}
-use Rattle.paper.specs.Batch.{Word, lineSize, lineOf, linesFrom}
-use Rattle.paper.specs.Calls.{columns}
+use Rattle.definitions.specs.Rule.{Rule, size}
+use Rattle.definitions.specs.Columns.{flowOf, LC}
+use Rattle.definitions.specs.Plan.{maskOf, carried}
+use Rattle.definitions.specs.Direct.{State}
+use Rattle.definitions.specs.Batch.{Word, lineSize, lineOf, linesFrom}
+use Rattle.definitions.specs.Calls.{columns}
 use Rattle.plans.specs.Accepted.{Accepted}
 use Rattle.rounds.specs.Round.{Lies}
 use Rattle.columns.specs.Proper.{Proper}

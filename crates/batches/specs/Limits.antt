@@ -2,8 +2,8 @@
 use Prim.Native.Nat.{ℕ, _*_}
 use mathlib.Core.Bool.{Bool, _&&_}
 use lib.Dec.{leb, ltb}
-use Rattle.paper.specs.Batch.{recordSize}
-use Rattle.paper.specs.Finder.{mostRows, mostQuota, mostColumns}
+use Rattle.definitions.specs.Batch.{recordSize}
+use Rattle.definitions.specs.Finder.{mostRows, mostQuota, mostColumns}
 
 -- the row is one of the batch, each number keeps to its limit, and so many words hold all records
 unfoldable pub within : ℕ → ℕ → ℕ → ℕ → ℕ → Bool

@@ -4,12 +4,12 @@ use Prim.Native.Nat.{ℕ, _*_, _≤_, _<_}
 use mathlib.Core.Path.{_≡_}
 use mathlib.Core.Logic.{_⊎_}
 use lib.ListN.{length}
-use Rattle.paper.specs.Rule.{Rule}
-use Rattle.paper.specs.Batch.{recordSize, lineSize, mostOf}
-use Rattle.paper.specs.Finder.{mostRows, mostQuota}
-use Rattle.paper.specs.Calls.{Batch, mostBudget, rowsOf, columns, refusal}
-use Rattle.paper.specs.declared.Reply.{Reply}
-use Rattle.paper.specs.declared.Reply.the-variants.{Done}
+use Rattle.definitions.specs.Rule.{Rule}
+use Rattle.definitions.specs.Batch.{recordSize, lineSize, mostOf}
+use Rattle.definitions.specs.Finder.{mostRows, mostQuota}
+use Rattle.definitions.specs.Calls.{Batch, mostBudget, rowsOf, columns, refusal}
+use Rattle.definitions.specs.declared.Reply.{Reply}
+use Rattle.definitions.specs.declared.Reply.the-variants.{Done}
 use Rattle.plans.specs.Accepted.{PlanOf}
 
 -- rows and values that a rule can take, and numbers that keep to their limits

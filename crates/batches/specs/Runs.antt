@@ -5,14 +5,14 @@ use mathlib.Core.Bool.{cond, not, _||_}
 use mathlib.Core.List.{List, _++_}
 use lib.Dec.{eqb, ltb}
 use lib.ListN.{length}
-use Rattle.paper.specs.Values.{Val}
-use Rattle.paper.specs.Rule.{Rule}
-use Rattle.paper.specs.Columns.{flowOf, LC}
-use Rattle.paper.specs.Batch.{Word, recordSize, statesOf, recordsOf, tableOf, mostOf}
-use Rattle.paper.specs.Finder.{mostRows, mostQuota}
-use Rattle.paper.specs.Calls.{mostBudget, refusal, left}
-use Rattle.paper.specs.declared.Reply.{Reply}
-use Rattle.paper.specs.declared.Reply.the-variants.{Done}
+use Rattle.definitions.specs.Values.{Val}
+use Rattle.definitions.specs.Rule.{Rule}
+use Rattle.definitions.specs.Columns.{flowOf, LC}
+use Rattle.definitions.specs.Batch.{Word, recordSize, statesOf, recordsOf, tableOf, mostOf}
+use Rattle.definitions.specs.Finder.{mostRows, mostQuota}
+use Rattle.definitions.specs.Calls.{mostBudget, refusal, left}
+use Rattle.definitions.specs.declared.Reply.{Reply}
+use Rattle.definitions.specs.declared.Reply.the-variants.{Done}
 use Rattle.batches.specs.Layout.{Known}
 use Rattle.batches.specs.declared.layout.Layout.{Layout}
 

@@ -5,13 +5,13 @@ use mathlib.Core.Bool.{cond}
 use mathlib.Core.List.{List, [], _∷_, _++_, map}
 use lib.ListN.{length, take, drop}
 use Prim.{Unit}
-use Rattle.words.specs.Words.{over}
-use Rattle.paper.specs.Values.{Val}
-use Rattle.paper.specs.Rule.{Rule}
-use Rattle.paper.specs.Columns.{flowOf, LC}
-use Rattle.paper.specs.Direct.{State, unfinished}
-use Rattle.paper.specs.Batch.{Word, recordSize, recordOf, recordsOf, goesOn, liveOf, mostOf}
-use Rattle.paper.specs.Calls.{mostBudget}
+use Rattle.buffers.specs.Words.{over}
+use Rattle.definitions.specs.Values.{Val}
+use Rattle.definitions.specs.Rule.{Rule}
+use Rattle.definitions.specs.Columns.{flowOf, LC}
+use Rattle.definitions.specs.Direct.{State, unfinished}
+use Rattle.definitions.specs.Batch.{Word, recordSize, recordOf, recordsOf, goesOn, liveOf, mostOf}
+use Rattle.definitions.specs.Calls.{mostBudget}
 use Rattle.columns.specs.Row.{Sound}
 use Rattle.columns.specs.Alike.{Alike}
 use Rattle.batches.specs.Layout.{width, lineIn, linesIn, Known}

@@ -1,12 +1,12 @@
 // The public run of a batch: the plan, the tests, then the rows.
 ghost use mathlib.Core.Path.{_≡_};
-ghost use Rattle.paper.specs.Calls.{Batch, Ran, refusal};
+ghost use Rattle.definitions.specs.Calls.{Batch, Ran, refusal};
 ghost use Rattle.batches.specs.Layout.{Running};
 use crate::layout::Layout;
 use crate::table::refuse;
 use crate::table::run_rows;
 use crate::table::test;
-use paper::Reply;
+use definitions::Reply;
 use plans::Taken;
 use rounds::Rule;
 
@@ -26,7 +26,7 @@ fn run_plan(
 {
     let variables = plan[1] as usize;
     let args = plan[2] as usize;
-    let lc = words::word_at(plan, 4);
+    let lc = buffers::word_at(plan, 4);
     let size = 2 + closure::place(lc, variables);
     let l = Layout {
         variables,

@@ -2,7 +2,7 @@
 ghost use mathlib.Core.Path.{_≡_};
 ghost use Prim.Native.Nat.{_+_, _*_, _≤_, _<_};
 ghost use lib.ListN.{length};
-ghost use Rattle.paper.specs.Finder.{isNumber, isLine, lineIndex, linePart, foundIn};
+ghost use Rattle.definitions.specs.Finder.{isNumber, isLine, lineIndex, linePart, foundIn};
 ghost use Rattle.batches.specs.Limits.{within};
 
 // Whether a word is the number n.

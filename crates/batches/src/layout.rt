@@ -6,9 +6,9 @@ ghost use Prim.Native.Nat.{_+_, _-_, _*_, _≤_, _<_};
 ghost use lib.IntN.{pos, natAbs};
 ghost use lib.Signed.{nonNeg};
 ghost use lib.ListN.{length, getD, take, drop, replicate};
-ghost use Rattle.words.specs.Words.{over};
-ghost use Rattle.paper.specs.Batch.{recordSize, lineSize, countTo, columnsOf};
-ghost use Rattle.paper.specs.Plan.{bitOf};
+ghost use Rattle.buffers.specs.Words.{over};
+ghost use Rattle.definitions.specs.Batch.{recordSize, lineSize, countTo, columnsOf};
+ghost use Rattle.definitions.specs.Plan.{bitOf};
 ghost use Rattle.columns.specs.OnPlan.{spread};
 ghost use Rattle.batches.specs.Table.{Placed, Looked};
 
@@ -40,8 +40,8 @@ pub fn put_record(
     out[at + 2] = count as i32;
     let first = at + 3;
     let all = &labels[..];
-    words::copy_at(out, first, &all[0..count]);
-    words::clear_at(out, first + count, quota - count);
+    buffers::copy_at(out, first, &all[0..count]);
+    buffers::clear_at(out, first + count, quota - count);
 }
 
 // ---- a line
@@ -95,7 +95,7 @@ pub fn fetch(src: &[i32], at: usize, n: usize) -> [i32; 16]
 {
     let mut a = [0i32; 16];
     let end = at + n;
-    words::copy_at(&mut a, 0, &src[at..end]);
+    buffers::copy_at(&mut a, 0, &src[at..end]);
     a
 }
 

@@ -3,9 +3,9 @@ ghost use mathlib.Core.Path.{_≡_};
 ghost use mathlib.Core.List.{_++_};
 ghost use Prim.Native.Nat.{ℕ, _+_, _-_, _*_, _≤_, _<_};
 ghost use lib.ListN.{length, take, drop};
-ghost use Rattle.paper.specs.Direct.{after};
-ghost use Rattle.paper.specs.Batch.{startsOf};
-ghost use Rattle.paper.specs.Calls.{refusal};
+ghost use Rattle.definitions.specs.Direct.{after};
+ghost use Rattle.definitions.specs.Batch.{startsOf};
+ghost use Rattle.definitions.specs.Calls.{refusal};
 ghost use Rattle.columns.specs.Proper.{Proper};
 ghost use Rattle.plans.specs.Accepted.{ruleIn};
 ghost use Rattle.batches.specs.Layout.{width, linesIn, Running, Known};
@@ -16,8 +16,8 @@ use crate::layout::fetch;
 use crate::layout::put_line;
 use crate::layout::put_record;
 use crate::layout::read_row;
-use paper::Refusal;
-use paper::Reply;
+use definitions::Refusal;
+use definitions::Reply;
 use rounds::Rule;
 
 // How far a row was carried on: its status, how many rounds it began on the way, its next block and how many labels it has.
@@ -224,10 +224,10 @@ pub fn run_rows(
     requires { ⌜ Running (now plan) (now rule) × (Known (ruleIn (now plan)) l × ((args ≡ ruleIn (now plan) .arguments) × Allowed args (l .size) rows (length (now values)) budget (l .quota) (length (now out)) (length (now work)))) ⌝ }
     ensures { λ r. ⌜ Left (ruleIn (now (plan .entry))) (now (values .entry)) rows budget (l .quota) (now (out .entry)) (now (work .entry)) r (now (out .exit)) (now (work .exit)) ⌝ }
 {
-    words::clear_at(out, 0, rows * (3 + l.quota));
+    buffers::clear_at(out, 0, rows * (3 + l.quota));
     put_starts(l, args, values, rows, work);
     let s = pass(plan, rule, l, budget, out, work, rows, 0);
     let live = s.live;
-    words::clear_at(work, live * l.size, (rows - live) * l.size);
+    buffers::clear_at(work, live * l.size, (rows - live) * l.size);
     s.most
 }

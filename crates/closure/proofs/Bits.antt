@@ -7,9 +7,9 @@ use native.Mathlib.Numerals.{add-one}
 use native.Mathlib.Omega.{arith}
 use lib.Dec.{lit<}
 use lib.Pow.{pow-mono, shl-exact}
-use Rattle.paper.specs.Plan.{maskOf}
-use Rattle.paper.specs.Batch.{countTo}
-use Rattle.paper.proofs.Masks.{mask-lt}
+use Rattle.definitions.specs.Plan.{maskOf}
+use Rattle.definitions.specs.Batch.{countTo}
+use Rattle.definitions.proofs.Masks.{mask-lt}
 
 -- ---- a mask
 pub mask-none : (f : ℕ → Bool) → 0 ≡ maskOf 0 f

@@ -1,7 +1,9 @@
 -- An array that a loop writes from the front, one number after the other. Assumes nothing.
 use mathlib.Core.Path.{_≡_, refl, _∙_}
 use mathlib.Core.List.{List}
-use Prim.Native.Nat.{ℕ, _+_, _≤_, _<_}
+use Prim.Native.Nat.{ℕ, _+_, _*_, _/_, _%_, _≤_, _<_}
+use native.Mathlib.Nat.{mul-le-mul-right}
+use lib.Arith.{digits-div, digits-mod}
 use native.Mathlib.Omega.{arith}
 use borrow.Author.Count.{below-more}
 use lib.ListN.{length, getD, set, length-set}
@@ -23,6 +25,15 @@ module _ {A : Type 0} (d : A) (size : ℕ) (f : ℕ → A) where
         (λ i l. getD-set-other new b i v d (λ q. omega arith) ∙ w .below i l)
         (getD-set-same new b v d (omega (arith, w .long)) ∙ e);
   }
+
+-- a table of rows with w entries each, written so: entry i stands in row i / w at place i % w
+unfoldable pub entryOf : {A : Type 0} → ℕ → (ℕ → ℕ → ℕ → A) → ℕ → A
+entryOf w f i = f i (i / w) (i % w)
+
+pub in-rows : {A : Type 0} (d : A) (size w n i : ℕ) (f : ℕ → ℕ → ℕ → A) (new : List A) → n * w ≤ i → Written d size i (entryOf w f) new
+    → (b t : ℕ) → b < n → t < w → getD new (b * w + t) d ≡ f (b * w + t) b t
+unfolding entryOf
+in-rows d size w n i f new h g b t l m = rw (digits-div b m, digits-mod b m) at (g .below (b * w + t) (omega (arith, mul-le-mul-right w l)))
 
 -- and from b on stands what stood there
 pub record Filled {A : Type 0} (d : A) (b : ℕ) (f : ℕ → A) (old new : List A) : Type 0 where

@@ -4,12 +4,12 @@ use mathlib.Core.Bool.{Bool, true, false, _&&_, false≢true}
 use mathlib.Core.Logic.{_⊎_, inl, inr, ⊎-elim}
 use Prim.Native.Nat.{ℕ, _-_, _≤_, _<_}
 use native.Mathlib.Omega.{arith}
-use Rattle.paper.specs.Columns.{some, grown}
-use Rattle.paper.specs.Batch.{countTo}
-use Rattle.paper.proofs.Tests.{clash, less-or, and-both, and-parts, some-in, some-out}
-use Rattle.paper.specs.Smallest.{Within, Closed, Smallest}
-use Rattle.paper.proofs.Counts.{count-le, count-mono, count-less}
-use Rattle.paper.proofs.Reached.{grown-case, grown-mono, still-closed}
+use Rattle.definitions.specs.Columns.{some, grown}
+use Rattle.definitions.specs.Batch.{countTo}
+use Rattle.definitions.proofs.Tests.{clash, less-or, and-both, and-parts, some-in, some-out}
+use Rattle.definitions.specs.Smallest.{Within, Closed, Smallest}
+use Rattle.definitions.proofs.Counts.{count-le, count-mono, count-less}
+use Rattle.definitions.proofs.Reached.{grown-case, grown-mono, still-closed}
 use Rattle.closure.specs.Sweep.{Sweep}
 
 is-or : (c d : ℕ) → (c ≡ d) ⊎ (c ≡ d → ⊥)

@@ -2,9 +2,9 @@
 use mathlib.Core.Path.{_≡_}
 use mathlib.Core.Bool.{Bool, true, false}
 use Prim.Native.Nat.{ℕ, _≤_, _<_}
-use Rattle.paper.specs.Columns.{grown}
-use Rattle.paper.specs.Batch.{countTo}
-use Rattle.paper.specs.Smallest.{Within, Back}
+use Rattle.definitions.specs.Columns.{grown}
+use Rattle.definitions.specs.Batch.{countTo}
+use Rattle.definitions.specs.Smallest.{Within, Back}
 
 pub record Sweep (n : ℕ) (edge : ℕ → ℕ → Bool) (old : ℕ → Bool) (b : ℕ) (new : ℕ → Bool) (more : Bool) : Type 0 where
   pub keeps : Within n old new

@@ -10,12 +10,12 @@ use lib.IntN.{pos}
 use lib.ListN.{length, getD, set, length-set}
 use lib.Seq.{getD-set-same, getD-set-other}
 use borrow.Author.Tests.{eqb-true, eqb-false, eq-eqb}
-use Rattle.paper.specs.Values.{Val, Out, value, fault}
-use Rattle.paper.specs.Rule.{Expr, Stmt, Set, Emit, End}
-use Rattle.paper.specs.Meaning.{eval}
-use Rattle.paper.specs.Direct.{Way, on, ended, onward, with, step, steps, faulted, quotaFull}
-use Rattle.paper.specs.Columns.{reads, readFirst, sets, endLooks}
-use Rattle.paper.proofs.Tests.{or-left, or-right, or-case}
+use Rattle.definitions.specs.Values.{Val, Out, value, fault}
+use Rattle.definitions.specs.Rule.{Expr, Stmt, Set, Emit, End}
+use Rattle.definitions.specs.Meaning.{eval}
+use Rattle.definitions.specs.Direct.{Way, on, ended, onward, with, step, steps, faulted, quotaFull}
+use Rattle.definitions.specs.Columns.{reads, readFirst, sets, endLooks}
+use Rattle.definitions.proofs.Tests.{or-left, or-right, or-case}
 use Rattle.columns.specs.Alike.{Alike}
 use Rattle.columns.proofs.Reading.{Agree, eval-alike}
 

@@ -4,37 +4,31 @@ use mathlib.Core.Path.{_≡_}
 use mathlib.Core.Bool.{Bool, true, false, cond}
 use mathlib.Core.List.{List}
 use borrow.Author.Tests.{eq-eqb}
-use Rattle.paper.specs.Values.{Val, Out, value, fault, also}
-use Rattle.paper.specs.Rule.{End, Goto, Jump, Stop, If}
-use Rattle.paper.specs.Meaning.{holds}
-use Rattle.paper.specs.Direct.{Exit, toBlock, toRound, exit}
-use Rattle.paper.specs.Columns.{goesTo, jumpsTo, leadsTo}
-use Rattle.paper.proofs.Tests.{or-left, or-right}
+use Rattle.definitions.specs.Values.{Val, Out, value, fault, also}
+use Rattle.definitions.specs.Rule.{End, Goto, Jump, Stop, If}
+use Rattle.definitions.specs.Meaning.{holds}
+use Rattle.definitions.specs.Direct.{Exit, toBlock, toRound, exit}
+use Rattle.definitions.specs.Columns.{goesTo, jumpsTo}
+use Rattle.definitions.proofs.Tests.{or-left, or-right}
 
 pub record Named (e : End) (o : Out Exit) : Type 0 where
   pub goes : (t : ℕ) → o ≡ value (toBlock t) → goesTo e t ≡ true
-  pub goes-on : (t : ℕ) → o ≡ value (toBlock t) → leadsTo e t ≡ true
   pub jumps : (t : ℕ) → o ≡ value (toRound t) → jumpsTo e t ≡ true
-  pub jumps-on : (t : ℕ) → o ≡ value (toRound t) → leadsTo e t ≡ true
 
 pub exit-named : (e : End) (env : List Val) → Named e (exit e env)
-unfolding goesTo jumpsTo leadsTo exit
-exit-named (Goto u) env = record { goes = λ t p. eq-eqb u t (cc); goes-on = λ t p. eq-eqb u t (cc); jumps = λ t p. cc; jumps-on = λ t p. cc }
-exit-named (Jump u) env = record { goes = λ t p. cc; goes-on = λ t p. cc; jumps = λ t p. eq-eqb u t (cc); jumps-on = λ t p. eq-eqb u t (cc) }
-exit-named Stop env = record { goes = λ t p. cc; goes-on = λ t p. cc; jumps = λ t p. cc; jumps-on = λ t p. cc }
+unfolding goesTo jumpsTo exit
+exit-named (Goto u) env = record { goes = λ t p. eq-eqb u t (cc); jumps = λ t p. cc }
+exit-named (Jump u) env = record { goes = λ t p. cc; jumps = λ t p. eq-eqb u t (cc) }
+exit-named Stop env = record { goes = λ t p. cc; jumps = λ t p. cc }
 exit-named (If c x y) env = go (holds c env) (exit-named x env) (exit-named y env)
   where
     go : (o : Out Bool) → Named x (exit x env) → Named y (exit y env) → Named (If c x y) (also o (λ h. cond h (exit x env) (exit y env)))
     go (value true) m n = record {
       goes = λ t p. or-left (goesTo x t) _ (m .goes t p);
-      goes-on = λ t p. or-left (leadsTo x t) _ (m .goes-on t p);
       jumps = λ t p. or-left (jumpsTo x t) _ (m .jumps t p);
-      jumps-on = λ t p. or-left (leadsTo x t) _ (m .jumps-on t p);
     }
     go (value false) m n = record {
       goes = λ t p. or-right (goesTo x t) _ (n .goes t p);
-      goes-on = λ t p. or-right (leadsTo x t) _ (n .goes-on t p);
       jumps = λ t p. or-right (jumpsTo x t) _ (n .jumps t p);
-      jumps-on = λ t p. or-right (leadsTo x t) _ (n .jumps-on t p);
     }
-    go (fault k) m n = record { goes = λ t p. cc; goes-on = λ t p. cc; jumps = λ t p. cc; jumps-on = λ t p. cc }
+    go (fault k) m n = record { goes = λ t p. cc; jumps = λ t p. cc }

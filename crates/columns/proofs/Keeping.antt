@@ -7,12 +7,12 @@ use native.Mathlib.Omega.{arith}
 use lib.Dec.{ltb}
 use lib.ListN.{length, set}
 use borrow.Author.Tests.{ltb-true}
-use Rattle.paper.specs.Values.{Val, Out, value, fault, kindNumber}
-use Rattle.paper.specs.declared.Kind.{Kind}
-use Rattle.paper.specs.declared.Kind.the-variants.{ZeroDivisor, OutOfRange}
-use Rattle.paper.specs.Rule.{Expr, Stmt, Set, Emit, End, Rule, blockOf}
-use Rattle.paper.specs.Meaning.{eval}
-use Rattle.paper.specs.Direct.{Way, on, ended, onward, with, emitted, step, steps, Exit, toBlock, toRound, toStop, exit, Round, jumped, finished, leave, through, walk, quotaFull}
+use Rattle.definitions.specs.Values.{Val, Out, value, fault, kindNumber}
+use Rattle.definitions.specs.declared.Kind.{Kind}
+use Rattle.definitions.specs.declared.Kind.the-variants.{ZeroDivisor, OutOfRange}
+use Rattle.definitions.specs.Rule.{Expr, Stmt, Set, Emit, End, Rule, blockOf}
+use Rattle.definitions.specs.Meaning.{eval}
+use Rattle.definitions.specs.Direct.{Way, on, ended, onward, with, emitted, step, steps, Exit, toBlock, toRound, toStop, exit, Round, jumped, finished, leave, through, walk, quotaFull}
 
 -- the statuses of a row that has ended
 abbrev pub Ends : ℕ → Type 0

@@ -7,14 +7,14 @@ use lib.Dec.{eqb}
 use lib.IntN.{ℤ, pos, natAbs}
 use lib.Signed.{ltZ}
 use lib.ListN.{length, getD, set, replicate}
-use Rattle.paper.specs.Values.{Val, Out, value, fault, flaw, also, settled, least, most, negation, divided, quotient, remainder}
-use Rattle.paper.specs.declared.Kind.the-variants.{ZeroDivisor, OutOfRange}
-use Rattle.paper.specs.Rule.{Operator, Add, Subtract, Multiply, Divide, Remainder, Expr, Const, Var, Neg, Op, Case, Rule, size}
-use Rattle.paper.specs.Meaning.{eval, holds, applied}
-use Rattle.paper.specs.Direct.{State, Round, jumped, finished, start, joined, advance, after}
-use Rattle.paper.specs.Batch.{goesOn}
+use Rattle.definitions.specs.Values.{Val, Out, value, fault, flaw, also, settled, least, most, negation, divided, quotient, remainder}
+use Rattle.definitions.specs.declared.Kind.the-variants.{ZeroDivisor, OutOfRange}
+use Rattle.definitions.specs.Rule.{Operator, Add, Subtract, Multiply, Divide, Remainder, Expr, Const, Var, Neg, Op, Case, Rule, size}
+use Rattle.definitions.specs.Meaning.{eval, holds, applied}
+use Rattle.definitions.specs.Direct.{State, Round, jumped, finished, start, joined, advance, after}
+use Rattle.definitions.specs.Batch.{goesOn}
 use Rattle.columns.specs.Range.{AllInRange, Bounded, worked, Constants, Ranged}
-use Rattle.paper.specs.Limits.{InRange}
+use Rattle.definitions.specs.Limits.{InRange}
 use Rattle.columns.proofs.Keeping.{KeptRound, walk-kept}
 use Rattle.columns.proofs.Rows.{roundOf}
 

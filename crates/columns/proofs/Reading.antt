@@ -6,12 +6,12 @@ use mathlib.Core.List.{List}
 use lib.IntN.{pos}
 use lib.ListN.{getD}
 use borrow.Author.Tests.{eq-eqb}
-use Rattle.paper.specs.Values.{Val, value}
-use Rattle.paper.specs.Rule.{Expr, Cond, Const, Var, Neg, Op, Case, Compare, Not, Join, End, Goto, Jump, Stop, If}
-use Rattle.paper.specs.Meaning.{eval, holds}
-use Rattle.paper.specs.Direct.{exit}
-use Rattle.paper.specs.Columns.{reads, looks, endLooks}
-use Rattle.paper.proofs.Tests.{or-left, or-right}
+use Rattle.definitions.specs.Values.{Val, value}
+use Rattle.definitions.specs.Rule.{Expr, Cond, Const, Var, Neg, Op, Case, Compare, Not, Join, End, Goto, Jump, Stop, If}
+use Rattle.definitions.specs.Meaning.{eval, holds}
+use Rattle.definitions.specs.Direct.{exit}
+use Rattle.definitions.specs.Columns.{reads, looks, endLooks}
+use Rattle.definitions.proofs.Tests.{or-left, or-right}
 
 -- x and y agree on a set of variables
 abbrev pub Agree : (ℕ → Bool) → List Val → List Val → Type 0

@@ -8,11 +8,12 @@ use native.Mathlib.Nat.{zero-add, add-zero, add-suc}
 use lib.IntN.{pos}
 use lib.ListN.{length, replicate, length-append, length-replicate, length-set}
 use borrow.Author.Tests.{eqb-true, eqb-false}
-use Rattle.paper.specs.Values.{Val}
-use Rattle.paper.specs.Rule.{Rule, size}
-use Rattle.paper.specs.Direct.{State, Round, jumped, finished, walk, start, joined, advance, after}
-use Rattle.paper.specs.Batch.{goesOn}
-use Rattle.paper.proofs.Columns.{entry-in-J}
+use Rattle.definitions.specs.Values.{Val}
+use Rattle.definitions.specs.Rule.{Rule, size}
+use Rattle.definitions.specs.Direct.{State, Round, jumped, finished, walk, start, joined, advance, after}
+use Rattle.definitions.specs.Columns.{flowOf}
+use Rattle.definitions.specs.Batch.{goesOn}
+use Rattle.definitions.proofs.Columns.{entry-in-J}
 use Rattle.columns.specs.OnPlan.{narrowed, lineRound}
 use Rattle.columns.specs.Proper.{Proper}
 use Rattle.columns.specs.Row.{seen, joinedOn, advanceOn, afterOn, Sound}
@@ -147,7 +148,7 @@ module _ (r : Rule) (q : ℕ) where
       going = λ z. refl;
       labels-few = omega arith;
       block-below = ok .entry;
-      block-in-J = entry-in-J r;
+      block-in-J = entry-in-J (flowOf r);
       vars-all = omega (arith, length-append args (replicate (r .variables - length args) (pos 0)), length-replicate (r .variables - length args) (pos 0));
     }
 

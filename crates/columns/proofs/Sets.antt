@@ -8,10 +8,10 @@ use native.Mathlib.Omega.{arith}
 use lib.IntN.{pos}
 use lib.ListN.{length, getD, set, length-set, List·getD-append}
 use lib.Seq.{getD-set-same, getD-set-other, getD-at}
-use Rattle.paper.specs.Values.{Val}
-use Rattle.paper.specs.Batch.{columnsOf, countTo}
-use Rattle.paper.proofs.Tests.{last-or}
-use Rattle.paper.proofs.Counts.{count-before, columns-length}
+use Rattle.definitions.specs.Values.{Val}
+use Rattle.definitions.specs.Batch.{columnsOf, countTo}
+use Rattle.definitions.proofs.Tests.{last-or}
+use Rattle.definitions.proofs.Counts.{count-before, columns-length}
 use Rattle.columns.specs.OnPlan.{kept, spread}
 use Rattle.columns.specs.Alike.{Alike}
 

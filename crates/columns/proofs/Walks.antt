@@ -6,13 +6,13 @@ use mathlib.Core.List.{List}
 use native.Mathlib.Omega.{arith}
 use lib.Dec.{eqb}
 use lib.ListN.{length}
-use Rattle.paper.specs.Values.{Val, Out, value, fault}
-use Rattle.paper.specs.Rule.{Rule, size, blockOf}
-use Rattle.paper.specs.Direct.{Exit, toBlock, toRound, toStop, exit, Way, on, ended, Round, jumped, finished, leave, through, steps, walk, stopped, faulted}
-use Rattle.paper.specs.Columns.{flowOf, inputsOf, outputsOf, outputs, LC, sets, jumpsTo, leadsTo}
-use Rattle.paper.specs.Batch.{columnsOf}
-use Rattle.paper.proofs.Tests.{or-left, or-right, and-both, some-in}
-use Rattle.paper.proofs.Columns.{computed, shared, entry-in-J}
+use Rattle.definitions.specs.Values.{Val, Out, value, fault}
+use Rattle.definitions.specs.Rule.{Rule, size, blockOf}
+use Rattle.definitions.specs.Direct.{Exit, toBlock, toRound, toStop, exit, Way, on, ended, Round, jumped, finished, leave, through, steps, walk, stopped, faulted}
+use Rattle.definitions.specs.Columns.{flowOf, inputsOf, outputsOf, names, J, outputs, LC, sets, goesTo, jumpsTo}
+use Rattle.definitions.specs.Batch.{columnsOf}
+use Rattle.definitions.proofs.Tests.{or-left, or-right, and-both, some-in}
+use Rattle.definitions.proofs.Columns.{computed, shared}
 use Rattle.columns.specs.OnPlan.{entered, handed, leaving, planWalk, spread, narrowed, lineRound}
 use Rattle.columns.specs.Proper.{Proper}
 use Rattle.columns.proofs.Reading.{exit-alike}
@@ -23,7 +23,7 @@ use Rattle.columns.proofs.Endings.{Named, exit-named}
 
 -- two rounds: both ended alike, or both jump to one block of J, with the same labels and environments that agree on the LC columns
 pub data Rounds (r : Rule) (a b : Round) : Type 0 where
-  both-jumped : (t : ℕ) (x y ls : List Val) → a ≡ jumped t x ls → b ≡ jumped t y ls → t < size r → flowOf r .J t ≡ true → Alike (r .variables) (LC (flowOf r)) x y → Rounds r a b
+  both-jumped : (t : ℕ) (x y ls : List Val) → a ≡ jumped t x ls → b ≡ jumped t y ls → t < size r → J (flowOf r) t ≡ true → Alike (r .variables) (LC (flowOf r)) x y → Rounds r a b
   both-finished : (st : ℕ) (ls : List Val) → a ≡ finished st ls → b ≡ finished st ls → Rounds r a b
 
 module _ (r : Rule) (ok : Proper r) where
@@ -45,27 +45,29 @@ module _ (r : Rule) (ok : Proper r) where
         go false q = or-left _ _ (computed (flowOf r) .meets .through b k l h p q)
 
     -- and hands on the inputs of each block that it names
-    named-inputs : (t : ℕ) → leadsTo (blockOf r b .ending) t ≡ true → (k : ℕ) → k < r .variables → inputsOf (flowOf r) t k ≡ true → outputsOf (flowOf r) b k ≡ true
+    named-inputs : (t : ℕ) → t < size r → names (flowOf r) b t ≡ true → (k : ℕ) → k < r .variables → inputsOf (flowOf r) t k ≡ true → outputsOf (flowOf r) b k ≡ true
     unfolding outputs
-    named-inputs t n k h p = some-in (size r) t (λ u. flowOf r .names b u && inputsOf (flowOf r) u k) (ok .target-below b t l n) (and-both _ _ n p)
+    named-inputs t m n k h p = some-in (size r) t (λ u. names (flowOf r) b u && inputsOf (flowOf r) u k) m (and-both _ _ n p)
 
-    jumped-in-J : (t : ℕ) → jumpsTo (blockOf r b .ending) t ≡ true → flowOf r .J t ≡ true
+    jumped-in-J : (t : ℕ) → jumpsTo (blockOf r b .ending) t ≡ true → J (flowOf r) t ≡ true
     jumped-in-J t p = or-right (eqb t 0) _ (some-in (size r) b (λ c. jumpsTo (blockOf r c .ending) t) l p)
 
     -- ---- the ending
     leave-alike : (o : Out Exit) → Named (blockOf r b .ending) o → (x y ls : List Val) → Alike (r .variables) (outputsOf (flowOf r) b) x y → (W U : ℕ → Round)
-        → ((t : ℕ) → t < size r → b < t → Alike (r .variables) (inputsOf (flowOf r) t) x y → Rounds r (W t) (U t)) → Rounds r (leave o x ls W) (leave o y ls U)
-    leave-alike (value (toBlock t)) n x y ls w W U h = h t (ok .target-below b t l (n .goes-on t refl)) (ok .goto-rises b t l (n .goes t refl)) (alike-less _ _ _ x y (named-inputs t (n .goes-on t refl)) w)
+        → ((t : ℕ) → t < size r → ok .rank t < ok .rank b → Alike (r .variables) (inputsOf (flowOf r) t) x y → Rounds r (W t) (U t)) → Rounds r (leave o x ls W) (leave o y ls U)
+    leave-alike (value (toBlock t)) n x y ls w W U h =
+        let m = ok .goto-below b t l (n .goes t refl) in
+        h t m (ok .ranked .falls b t l (n .goes t refl)) (alike-less _ _ _ x y (named-inputs t m (or-left (goesTo (blockOf r b .ending) t) _ (n .goes t refl))) w)
     leave-alike (value (toRound t)) n x y ls w W U h =
         let j = jumped-in-J t (n .jumps t refl) in
-        let m = ok .target-below b t l (n .jumps-on t refl) in
-        both-jumped t x y ls refl refl m j (alike-less _ _ _ x y (λ k i p. named-inputs t (n .jumps-on t refl) k i (shared (flowOf r) (entry-in-J r) t k m i j ∙ p)) w)
+        let m = ok .jump-below b t l (n .jumps t refl) in
+        both-jumped t x y ls refl refl m j (alike-less _ _ _ x y (λ k i p. named-inputs t m (or-right (goesTo (blockOf r b .ending) t) _ (n .jumps t refl)) k i (shared (flowOf r) t k m i j ∙ p)) w)
     leave-alike (value toStop) n x y ls w W U h = both-finished stopped ls refl refl
     leave-alike (fault k) n x y ls w W U h = both-finished (faulted k) ls refl refl
 
     -- ---- the block
     block-alike : (q : ℕ) (x y ls : List Val) → Alike (r .variables) (inputsOf (flowOf r) b) x y → (W U : ℕ → List Val → List Val → Round)
-        → ((t : ℕ) (x y ls : List Val) → t < size r → b < t → Alike (r .variables) (inputsOf (flowOf r) t) x y → Rounds r (W t x ls) (U t y ls))
+        → ((t : ℕ) (x y ls : List Val) → t < size r → ok .rank t < ok .rank b → Alike (r .variables) (inputsOf (flowOf r) t) x y → Rounds r (W t x ls) (U t y ls))
         → Rounds r (through (steps q (blockOf r b .body) x ls) (blockOf r b .ending) W) (leaving r b (steps q (blockOf r b .body) (entered r b y) ls) (blockOf r b .ending) U)
     block-alike q x y ls w W U h = go _ _ (steps-alike (r .variables) (blockOf r b .ending) q (blockOf r b .body) _ x (entered r b y) ls covered (alike-kept _ (r .variables) x y w))
       where
@@ -75,18 +77,18 @@ module _ (r : Rule) (ok : Proper r) where
             (leave-alike (exit (blockOf r b .ending) y) (exit-named (blockOf r b .ending) y) x (handed r b y) ls (alike-kept _ (r .variables) x y (alike-less _ _ _ x y handed-on w)) _ _ (λ t m n. h t x (handed r b y) ls m n))
         go c d (both-ended st ls p q) = both-finished st ls (rw p) (rw q)
 
-  -- ---- the round: f blocks are enough from block b on
-  pub walk-alike : (f q b : ℕ) (x y ls : List Val) → b < size r → size r ≤ f + b → Alike (r .variables) (inputsOf (flowOf r) b) x y → Rounds r (walk f r q b x ls) (planWalk f r q b y ls)
+  -- ---- the round: from block b on, more blocks than its rank are enough
+  pub walk-alike : (f q b : ℕ) (x y ls : List Val) → b < size r → ok .rank b < f → Alike (r .variables) (inputsOf (flowOf r) b) x y → Rounds r (walk f r q b x ls) (planWalk f r q b y ls)
   unfolding walk planWalk
   walk-alike zero q b x y ls l s w = absurd (omega arith)
   walk-alike (suc f) q b x y ls l s w = block-alike b l q x y ls w _ _ (λ t x y ls m n u. walk-alike f q t x y ls m (omega arith) u)
 
-  -- ---- the number of blocks is enough
+  -- ---- and more make no difference
 
-  goto-ahead : (b : ℕ) (env : List Val) → b < size r → (t : ℕ) → exit (blockOf r b .ending) env ≡ value (toBlock t) → (t < size r) × (b < t)
-  goto-ahead b env l t p =
+  goto-falls : (b : ℕ) (env : List Val) → b < size r → (t : ℕ) → exit (blockOf r b .ending) env ≡ value (toBlock t) → (t < size r) × (ok .rank t < ok .rank b)
+  goto-falls b env l t p =
       let n = exit-named (blockOf r b .ending) env in
-      (ok .target-below b t l (n .goes-on t p), ok .goto-rises b t l (n .goes t p))
+      (ok .goto-below b t l (n .goes t p), ok .ranked .falls b t l (n .goes t p))
 
   leave-same : (o : Out Exit) (env ls : List Val) (W U : ℕ → Round) → ((t : ℕ) → o ≡ value (toBlock t) → W t ≡ U t) → leave o env ls W ≡ leave o env ls U
   leave-same (value (toBlock t)) env ls W U h = h t refl
@@ -94,22 +96,22 @@ module _ (r : Rule) (ok : Proper r) where
   leave-same (value toStop) env ls W U h = refl
   leave-same (fault k) env ls W U h = refl
 
-  module _ (b : ℕ) (l : b < size r) (W U : ℕ → List Val → List Val → Round) (h : (t : ℕ) (env ls : List Val) → t < size r → b < t → W t env ls ≡ U t env ls) where
+  module _ (b : ℕ) (l : b < size r) (W U : ℕ → List Val → List Val → Round) (h : (t : ℕ) (env ls : List Val) → t < size r → ok .rank t < ok .rank b → W t env ls ≡ U t env ls) where
     through-same : (w : Way) → through w (blockOf r b .ending) W ≡ through w (blockOf r b .ending) U
-    through-same (on env ls) = leave-same _ env ls _ _ (λ t p. let m = goto-ahead b env l t p in h t env ls (m .0) (m .1))
+    through-same (on env ls) = leave-same _ env ls _ _ (λ t p. let m = goto-falls b env l t p in h t env ls (m .0) (m .1))
     through-same (ended st ls) = refl
 
-  pub walk-enough : (f g q b : ℕ) (env ls : List Val) → b < size r → size r ≤ f + b → size r ≤ g + b → walk f r q b env ls ≡ walk g r q b env ls
+  pub walk-enough : (f g q b : ℕ) (env ls : List Val) → b < size r → ok .rank b < f → ok .rank b < g → walk f r q b env ls ≡ walk g r q b env ls
   unfolding walk
   walk-enough zero g q b env ls l m n = absurd (omega arith)
   walk-enough (suc f) zero q b env ls l m n = absurd (omega arith)
   walk-enough (suc f) (suc g) q b env ls l m n = through-same b l _ _ (λ t env ls i j. walk-enough f g q t env ls i (omega arith) (omega arith)) (steps q (blockOf r b .body) env ls)
 
   -- a round that goes on, goes on at a block of J
-  pub jumps-into-J : (q b : ℕ) (vars ls : List Val) → length vars ≡ r .variables → b < size r → (t : ℕ) (x ms : List Val) → walk (size r) r q b vars ls ≡ jumped t x ms → (t < size r) × (flowOf r .J t ≡ true)
-  jumps-into-J q b vars ls e l t x ms h = go _ (walk-alike (size r) q b vars vars ls l (omega arith) (alike-self _ _ vars (omega arith)))
+  pub jumps-into-J : (q b : ℕ) (vars ls : List Val) → length vars ≡ r .variables → b < size r → (t : ℕ) (x ms : List Val) → walk (size r) r q b vars ls ≡ jumped t x ms → (t < size r) × (J (flowOf r) t ≡ true)
+  jumps-into-J q b vars ls e l t x ms h = go _ (walk-alike (size r) q b vars vars ls l (ok .ranked .below b l) (alike-self _ _ vars (omega arith)))
     where
-      go : (d : Round) → Rounds r (walk (size r) r q b vars ls) d → (t < size r) × (flowOf r .J t ≡ true)
+      go : (d : Round) → Rounds r (walk (size r) r q b vars ls) d → (t < size r) × (J (flowOf r) t ≡ true)
       go d (both-jumped u x y ls p q m j w) =
           let same : u ≡ t = cc in
           (rw same at m, rw same at j)
@@ -118,13 +120,13 @@ module _ (r : Rule) (ok : Proper r) where
           absurd (omega arith)
 
   -- one round of a line is the direct run's round, narrowed to the LC columns
-  pub on-plan : (q b : ℕ) (vars ls : List Val) → length vars ≡ r .variables → b < size r → flowOf r .J b ≡ true
+  pub on-plan : (q b : ℕ) (vars ls : List Val) → length vars ≡ r .variables → b < size r → J (flowOf r) b ≡ true
       → lineRound r q b (columnsOf (r .variables) (LC (flowOf r)) vars) ls ≡ narrowed r (walk (size r) r q b vars ls)
   unfolding lineRound
   on-plan q b vars ls e l j =
       go _ _
-      (walk-alike (size r) q b vars (spread (r .variables) (LC (flowOf r)) (columnsOf (r .variables) (LC (flowOf r)) vars)) ls l (omega arith)
-      (alike-less _ _ _ _ _ (λ k i p. sym (shared (flowOf r) (entry-in-J r) b k l i j) ∙ p) (spread-alike (LC (flowOf r)) (r .variables) vars (ok .few) (omega arith))))
+      (walk-alike (size r) q b vars (spread (r .variables) (LC (flowOf r)) (columnsOf (r .variables) (LC (flowOf r)) vars)) ls l (ok .ranked .below b l)
+      (alike-less _ _ _ _ _ (λ k i p. sym (shared (flowOf r) b k l i j) ∙ p) (spread-alike (LC (flowOf r)) (r .variables) vars (ok .few) (omega arith))))
     where
       go : (c d : Round) → Rounds r c d → narrowed r d ≡ narrowed r c
       go c d (both-jumped t x y ls p q m i w) = rw (p, q) (ap (λ (l : List Val). jumped t l ls) (sym (columns-same (LC (flowOf r)) (r .variables) x y (w .same))))

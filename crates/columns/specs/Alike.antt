@@ -5,7 +5,7 @@ use mathlib.Core.Bool.{Bool, true}
 use mathlib.Core.List.{List}
 use lib.IntN.{pos}
 use lib.ListN.{length, getD}
-use Rattle.paper.specs.Values.{Val}
+use Rattle.definitions.specs.Values.{Val}
 
 -- both have at least v values, and the same at each variable below v that the set holds
 pub record Alike (v : ℕ) (A : ℕ → Bool) (x y : List Val) : Type 0 where

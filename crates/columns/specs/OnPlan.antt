@@ -5,11 +5,11 @@ use mathlib.Core.Bool.{Bool, cond}
 use mathlib.Core.List.{List}
 use lib.IntN.{pos}
 use lib.ListN.{getD, set, replicate}
-use Rattle.paper.specs.Values.{Val}
-use Rattle.paper.specs.Rule.{End, Rule, size, blockOf}
-use Rattle.paper.specs.Direct.{Way, on, ended, steps, exit, Round, jumped, finished, leave}
-use Rattle.paper.specs.Columns.{flowOf, inputsOf, outputsOf, LC}
-use Rattle.paper.specs.Batch.{columnsOf, countTo}
+use Rattle.definitions.specs.Values.{Val}
+use Rattle.definitions.specs.Rule.{End, Rule, size, blockOf}
+use Rattle.definitions.specs.Direct.{Way, on, ended, steps, exit, Round, jumped, finished, leave}
+use Rattle.definitions.specs.Columns.{flowOf, inputsOf, outputsOf, LC}
+use Rattle.definitions.specs.Batch.{columnsOf, countTo}
 
 -- the variables below v that the set does not hold, put to 0
 unfoldable pub kept : ℕ → (ℕ → Bool) → List Val → List Val

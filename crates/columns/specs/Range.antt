@@ -3,10 +3,10 @@ use Prim.Native.Nat.{ℕ}
 use mathlib.Core.List.{List, List·Memᴰ}
 use lib.IntN.{pos}
 use lib.ListN.{getD}
-use Rattle.paper.specs.Values.{Val}
-use Rattle.paper.specs.Rule.{Expr, Const, Var, Neg, Op, Case, Stmt, Set, Emit, Rule, blockOf}
-use Rattle.paper.specs.Direct.{State}
-use Rattle.paper.specs.Limits.{InRange}
+use Rattle.definitions.specs.Values.{Val}
+use Rattle.definitions.specs.Rule.{Expr, Const, Var, Neg, Op, Case, Stmt, Set, Emit, Rule, blockOf}
+use Rattle.definitions.specs.Direct.{State}
+use Rattle.definitions.specs.Limits.{InRange}
 
 abbrev pub AllInRange : List Val → Type 0
 AllInRange xs = (k : ℕ) → InRange (getD xs k (pos 0))

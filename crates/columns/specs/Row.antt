@@ -6,11 +6,11 @@ use mathlib.Core.Bool.{true, cond}
 use mathlib.Core.List.{List}
 use lib.Dec.{eqb}
 use lib.ListN.{length}
-use Rattle.paper.specs.Values.{Val}
-use Rattle.paper.specs.Rule.{Rule, size}
-use Rattle.paper.specs.Direct.{State, unfinished, Round, jumped, finished}
-use Rattle.paper.specs.Columns.{flowOf, LC}
-use Rattle.paper.specs.Batch.{columnsOf}
+use Rattle.definitions.specs.Values.{Val}
+use Rattle.definitions.specs.Rule.{Rule, size}
+use Rattle.definitions.specs.Direct.{State, unfinished, Round, jumped, finished}
+use Rattle.definitions.specs.Columns.{flowOf, J, LC}
+use Rattle.definitions.specs.Batch.{columnsOf}
 use Rattle.columns.specs.OnPlan.{lineRound}
 
 pub record Row : Type 0 where
@@ -43,5 +43,5 @@ pub record Sound (r : Rule) (q n : ℕ) (s : State) : Type 0 where
   pub going : s .status ≡ unfinished → s .begun ≡ n
   pub labels-few : length (s .labels) ≤ q
   pub block-below : s .block < size r
-  pub block-in-J : flowOf r .J (s .block) ≡ true
+  pub block-in-J : J (flowOf r) (s .block) ≡ true
   pub vars-all : length (s .vars) ≡ r .variables

@@ -7,11 +7,12 @@ use mathlib.Core.List.{List, [], _∷_, _++_, append-assoc}
 use lib.Dec.{ltb, leb}
 use lib.ListN.{length, getD, List·getD-eq-default}
 use borrow.Author.Tests.{ltb-true, ltb-false, leb-true, ne-eqb}
-use Rattle.paper.specs.Rule.{Expr, Cond, Const, Var, Neg, Op, Case, Compare, Not, Join, Stmt, Set, Emit, End, Goto, Jump, If, Block}
-use Rattle.paper.specs.Grammar.{Got, got, refused, then, byteAt, one, two, constantAt, constantIn, variableAt, targetAt, ahead, anywhere}
-use Rattle.paper.specs.Grammar.{ExprTag, constTag, varTag, negTag, caseTag, badExpr, opTag, exprTag, CondTag, notTag, badCond, compareTag, joinTag, condTag}
-use Rattle.paper.specs.Grammar.{StmtTag, setTag, emitTag, noStmt, stmtTag, EndTag, gotoTag, jumpTag, stopTag, ifTag, badEnd, endTag}
-use Rattle.paper.specs.Grammar.{exprBody, condBody, exprAt, condAt, depth, setAt, emitAt, endBody, endAt, levels, after, blockBody, blockFrom, blockAt}
+use Rattle.definitions.specs.Rule.{Expr, Cond, Const, Var, Neg, Op, Case, Compare, Not, Join, Stmt, Set, Emit, End, Goto, Jump, If, Block}
+use Rattle.definitions.specs.declared.Targets.{Targets}
+use Rattle.definitions.specs.Grammar.{Got, got, refused, then, byteAt, one, two, constantAt, constantIn, variableAt, targetAt, mayGoto, mayJump}
+use Rattle.definitions.specs.Grammar.{ExprTag, constTag, varTag, negTag, caseTag, badExpr, opTag, exprTag, CondTag, notTag, badCond, compareTag, joinTag, condTag}
+use Rattle.definitions.specs.Grammar.{StmtTag, setTag, emitTag, noStmt, stmtTag, EndTag, gotoTag, jumpTag, stopTag, ifTag, badEnd, endTag}
+use Rattle.definitions.specs.Grammar.{exprBody, condBody, exprAt, condAt, depth, setAt, emitAt, endBody, endAt, levels, after, blockBody, blockFrom, blockAt}
 use Rattle.flows.specs.Marks.{Mark, carries, width, markOf}
 use Rattle.flows.proofs.Spans.{either, Spans, joined, tag-spans}
 use Rattle.flows.proofs.Trees.{exprMarks, condMarks, endMarks, stmtMarks, bodyMarks, blockMarks}
@@ -201,11 +202,11 @@ mutual
   cond-spanned (suc d) v s at = tagged s condMarks at (λ t. condBody (condTag t) (λ n. exprAt d v s n) (λ n. condAt d v s n) at) (λ h. cond-body v s (λ n. exprAt d v s n) (λ n. condAt d v s n) (λ n. expr-spanned d v s n) (λ n. cond-spanned d v s n) at h (condTag (getD s at 0)) (cond-byte (getD s at 0)))
 
 -- ---- endings
-module _ (n b v : ℕ) (s : List ℕ) (E : ℕ → Got End) (hE : (m : ℕ) → Spanned s endMarks m (E m)) (at : ℕ) (here : at < length s) where
-  end-body : (t : EndTag) → EndByte t (getD s at 0) → Spanned s endMarks at (endBody t n b v s E at)
+module _ (ts : Targets) (v : ℕ) (s : List ℕ) (E : ℕ → Got End) (hE : (m : ℕ) → Spanned s endMarks m (E m)) (at : ℕ) (here : at < length s) where
+  end-body : (t : EndTag) → EndByte t (getD s at 0) → Spanned s endMarks at (endBody t ts v s E at)
   unfolding endMarks width markOf carries
-  end-body gotoTag e = next s at (markOf 0x30) endMarks (targetAt (ahead n b) s (at + 1)) (λ t m. got (Goto t) m) (operand s at 0x30 7 (ahead n b) e refl) (λ t m w. w)
-  end-body jumpTag e = next s at (markOf 0x31) endMarks (targetAt (anywhere n) s (at + 1)) (λ t m. got (Jump t) m) (operand s at 0x31 7 (anywhere n) e refl) (λ t m w. w)
+  end-body gotoTag e = next s at (markOf 0x30) endMarks (targetAt (mayGoto ts) s (at + 1)) (λ t m. got (Goto t) m) (operand s at 0x30 7 (mayGoto ts) e refl) (λ t m w. w)
+  end-body jumpTag e = next s at (markOf 0x31) endMarks (targetAt (mayJump ts) s (at + 1)) (λ t m. got (Jump t) m) (operand s at 0x31 7 (mayJump ts) e refl) (λ t m w. w)
   end-body stopTag e = tag-spans s at 0x32 1 e refl (omega arith)
   end-body ifTag e = go (tag-spans s at 0x33 1 e refl (omega arith)) (condAt depth v s (at + 1)) (cond-spanned depth v s (at + 1))
     where
@@ -214,10 +215,10 @@ module _ (n b v : ℕ) (s : List ℕ) (E : ℕ → Got End) (hE : (m : ℕ) → 
       go head (refused k q) w = tt
   end-body badEnd e = tt
 
-end-spanned : (d n b v : ℕ) (s : List ℕ) (at : ℕ) → Spanned s endMarks at (endAt d n b v s at)
+end-spanned : (d : ℕ) (ts : Targets) (v : ℕ) (s : List ℕ) (at : ℕ) → Spanned s endMarks at (endAt d ts v s at)
 unfolding endAt
-end-spanned zero n b v s at = tagged s endMarks at (λ t. refused 8 at) (λ h. tt)
-end-spanned (suc d) n b v s at = tagged s endMarks at (λ t. endBody (endTag t) n b v s (λ m. endAt d n b v s m) at) (λ h. end-body n b v s (λ m. endAt d n b v s m) (λ m. end-spanned d n b v s m) at h (endTag (getD s at 0)) (end-byte (getD s at 0)))
+end-spanned zero ts v s at = tagged s endMarks at (λ t. refused 8 at) (λ h. tt)
+end-spanned (suc d) ts v s at = tagged s endMarks at (λ t. endBody (endTag t) ts v s (λ m. endAt d ts v s m) at) (λ h. end-body ts v s (λ m. endAt d ts v s m) (λ m. end-spanned d ts v s m) at h (endTag (getD s at 0)) (end-byte (getD s at 0)))
 
 -- ---- statements and blocks
 module _ (v : ℕ) (s : List ℕ) (at : ℕ) where
@@ -233,21 +234,21 @@ module _ (v : ℕ) (s : List ℕ) (at : ℕ) where
       let here = there s at 0x20 e in
       one-more s at exprMarks stmtMarks (at + 1) ((0x21, 0) ∷ []) Emit (tag-spans s at 0x21 1 e refl (omega arith)) (λ a. refl) (exprAt depth v s (at + 1)) (expr-spanned depth v s (at + 1))
 
-module _ (n b v : ℕ) (s : List ℕ) (B : ℕ → Got Block) (hB : (m : ℕ) → Spanned s blockMarks m (B m)) (at : ℕ) where
+module _ (ts : Targets) (v : ℕ) (s : List ℕ) (B : ℕ → Got Block) (hB : (m : ℕ) → Spanned s blockMarks m (B m)) (at : ℕ) where
   one-stmt : (p : Got Stmt) → Spanned s stmtMarks at p → Spanned s blockMarks at (then p (λ x m. one (after x) B m))
   unfolding bodyMarks
   one-stmt p w = next s at stmtMarks blockMarks p (λ x m. one (after x) B m) w (λ x m h. one-more s at blockMarks blockMarks m (stmtMarks x) (after x) h (λ k. refl) (B m) (hB m))
 
-  block-body : (t : StmtTag) → StmtByte t (getD s at 0) → Spanned s blockMarks at (blockBody t n b v s B at)
+  block-body : (t : StmtTag) → StmtByte t (getD s at 0) → Spanned s blockMarks at (blockBody t ts v s B at)
   unfolding bodyMarks
   block-body setTag e = one-stmt (setAt v s (at + 1)) (set-spanned v s at e)
   block-body emitTag e = one-stmt (emitAt v s (at + 1)) (emit-spanned v s at e)
-  block-body noStmt e = next s at endMarks blockMarks (endAt levels n b v s at) (λ e m. got (record { body = []; ending = e }) m) (end-spanned levels n b v s at) (λ e m w. w)
+  block-body noStmt e = next s at endMarks blockMarks (endAt levels ts v s at) (λ e m. got (record { body = []; ending = e }) m) (end-spanned levels ts v s at) (λ e m w. w)
 
-block-spanned : (f n b v : ℕ) (s : List ℕ) (at : ℕ) → Spanned s blockMarks at (blockFrom f n b v s at)
+block-spanned : (f : ℕ) (ts : Targets) (v : ℕ) (s : List ℕ) (at : ℕ) → Spanned s blockMarks at (blockFrom f ts v s at)
 unfolding blockFrom
-block-spanned zero n b v s at = tt
-block-spanned (suc f) n b v s at = block-body n b v s (λ m. blockFrom f n b v s m) (λ m. block-spanned f n b v s m) at (stmtTag (getD s at 0)) (stmt-byte (getD s at 0))
+block-spanned zero ts v s at = tt
+block-spanned (suc f) ts v s at = block-body ts v s (λ m. blockFrom f ts v s m) (λ m. block-spanned f ts v s m) at (stmtTag (getD s at 0)) (stmt-byte (getD s at 0))
 
-pub block-spans : (n b v : ℕ) (s : List ℕ) (at m : ℕ) (blk : Block) → blockAt n b v s at ≡ got blk m → Spans s at m (blockMarks blk)
-block-spans n b v s at m blk e = rw e at (block-spanned (length s) n b v s at)
+pub block-spans : (ts : Targets) (v : ℕ) (s : List ℕ) (at m : ℕ) (blk : Block) → blockAt ts v s at ≡ got blk m → Spans s at m (blockMarks blk)
+block-spans ts v s at m blk e = rw e at (block-spanned (length s) ts v s at)

@@ -114,11 +114,3 @@ module _ (k : ℕ) where
 
           pub first-inside : t < 0x20 → whole ≡ readsFirst k on (marksIn s (at + w) to)
           first-inside h = so-far ∙ rw (marks-more s at to inside, first-mark (getD s at 0) (getD s (at + 1) 0), ← is, unread, ← tag, lt-leb 0x20 t h, wide)
-
--- ---- one or the other, of which the second is asked only where the first is not so
-module _ (a b x : Bool) (e : x ≡ a) where
-  pub or-first : x ≡ true → x ≡ (a || b)
-  or-first h = rw (← e, h)
-
-  pub or-second : (y : Bool) → x ≡ false → y ≡ b → y ≡ (a || b)
-  or-second y h f = rw (← e, h, f)

@@ -4,8 +4,8 @@ use mathlib.Core.Path.{_≡_, refl, sym, ap, _∙_}
 use mathlib.Core.Bool.{Bool, true, false, not, _&&_, _||_}
 use mathlib.Core.List.{List, [], _∷_, _++_, append-assoc, append-nil}
 use lib.Dec.{eqb}
-use Rattle.paper.specs.Rule.{Expr, Cond, Const, Var, Neg, Op, Case, Compare, Not, Join, Stmt, Set, Emit, End, Goto, Jump, Stop, If, Block}
-use Rattle.paper.specs.Columns.{reads, looks, endLooks, readFirst, sets, jumpsTo, leadsTo}
+use Rattle.definitions.specs.Rule.{Expr, Cond, Const, Var, Neg, Op, Case, Compare, Not, Join, Stmt, Set, Emit, End, Goto, Jump, Stop, If, Block}
+use Rattle.definitions.specs.Columns.{reads, looks, endLooks, readFirst, sets, goesTo, jumpsTo}
 use Rattle.flows.specs.Marks.{Mark, has, readsFirst}
 
 unfoldable mutual
@@ -47,12 +47,6 @@ or-false false = refl
 or-assoc : (a b c : Bool) → (a || b) || c ≡ a || (b || c)
 or-assoc true b c = refl
 or-assoc false b c = refl
-
-or-swap : (a b c d : Bool) → (a || b) || (c || d) ≡ (a || c) || (b || d)
-or-swap true b c d = refl
-or-swap false true true d = refl
-or-swap false true false d = refl
-or-swap false false c d = refl
 
 module _ (tag x : ℕ) where
   pub has-append : (ms ns : List Mark) → has tag x (ms ++ ns) ≡ (has tag x ms || has tag x ns)
@@ -109,6 +103,13 @@ marks-sets (Emit a ∷ xs) e k = past 0x20 k (exprMarks a) (bodyMarks xs e) (exp
 
 -- ---- what is named
 
+end-gotos : (t : ℕ) (e : End) → has 0x30 t (endMarks e) ≡ goesTo e t
+unfolding endMarks has goesTo
+end-gotos t (Goto u) = or-false (eqb u t)
+end-gotos t (Jump u) = refl
+end-gotos t Stop = refl
+end-gotos t (If c x y) = rw (arms 0x30 t refl refl c x y, end-gotos t x, end-gotos t y)
+
 end-jumps : (t : ℕ) (e : End) → has 0x31 t (endMarks e) ≡ jumpsTo e t
 unfolding endMarks has jumpsTo
 end-jumps t (Goto u) = refl
@@ -116,19 +117,11 @@ end-jumps t (Jump u) = or-false (eqb u t)
 end-jumps t Stop = refl
 end-jumps t (If c x y) = rw (arms 0x31 t refl refl c x y, end-jumps t x, end-jumps t y)
 
-end-leads : (t : ℕ) (e : End) → (has 0x30 t (endMarks e) || has 0x31 t (endMarks e)) ≡ leadsTo e t
-unfolding endMarks has leadsTo
-end-leads t (Goto u) = or-false (eqb u t || false) ∙ or-false (eqb u t)
-end-leads t (Jump u) = or-false (eqb u t)
-end-leads t Stop = refl
-end-leads t (If c x y) =
-    rw (arms 0x30 t refl refl c x y, arms 0x31 t refl refl c x y, or-swap (has 0x30 t (endMarks x)) (has 0x30 t (endMarks y)) (has 0x31 t (endMarks x)) (has 0x31 t (endMarks y)), end-leads t x, end-leads t y)
-
 pub marks-jump : (xs : List Stmt) (e : End) (t : ℕ) → has 0x31 t (bodyMarks xs e) ≡ jumpsTo e t
 marks-jump xs e t = at-the-end 0x31 t refl refl refl xs e ∙ end-jumps t e
 
-pub marks-lead : (xs : List Stmt) (e : End) (t : ℕ) → (has 0x30 t (bodyMarks xs e) || has 0x31 t (bodyMarks xs e)) ≡ leadsTo e t
-marks-lead xs e t = rw (at-the-end 0x30 t refl refl refl xs e, at-the-end 0x31 t refl refl refl xs e) (end-leads t e)
+pub marks-goto : (xs : List Stmt) (e : End) (t : ℕ) → has 0x30 t (bodyMarks xs e) ≡ goesTo e t
+marks-goto xs e t = at-the-end 0x30 t refl refl refl xs e ∙ end-gotos t e
 
 -- ---- what is read first
 

@@ -4,10 +4,10 @@ use mathlib.Core.Bool.{Bool}
 use mathlib.Core.List.{List}
 use Prim.Native.Nat.{ℕ, _≤_}
 use lib.ListN.{length, getD}
-use Rattle.paper.specs.Rule.{Rule, size}
-use Rattle.paper.specs.Grammar.{got, ruleOf, longest}
-use Rattle.paper.specs.Columns.{flowOf}
-use Rattle.paper.specs.Plan.{placeOf}
+use Rattle.definitions.specs.Rule.{Rule, size}
+use Rattle.definitions.specs.Grammar.{got, ruleOf, longest}
+use Rattle.definitions.specs.Columns.{flowOf}
+use Rattle.definitions.specs.Plan.{placeOf}
 use Rattle.closure.specs.Tables.{Tables}
 
 -- the bytes are a rule, and no longer than a rule may be
@@ -18,6 +18,6 @@ pub record Ruled (s : List ℕ) : Type 0 where
   pub short : length s ≤ longest
 
 -- where each block begins and the last one ends, and what each reads first, sets and names
-pub record Told (r : Rule) (s starts : List ℕ) (fv bv named j : List Bool) : Type 0 where
+pub record Told (r : Rule) (s starts : List ℕ) (fv bv gotos jumps : List Bool) : Type 0 where
   pub places : (b : ℕ) → b ≤ size r → getD starts b 0 ≡ placeOf r s b
-  pub tables : Tables (flowOf r) (size r) (r .variables) fv bv named j
+  pub tables : Tables (flowOf r) (size r) (r .variables) fv bv gotos jumps

@@ -1,19 +1,26 @@
 // What each block of a rule reads, sets and names, and where it stands. A block's tags, read one after the other with no regard to what holds what, tell it.
-use paper::Read;
+use closure::Edges;
+use closure::Variables;
+use definitions::BLOCKS;
+use definitions::Read;
+use definitions::VARIABLES;
 use rules::blocks::read_block;
+use rules::blocks::targets_of;
 ghost use mathlib.Core.Path.{_≡_};
-ghost use mathlib.Core.Bool.{true, false, _&&_, _||_};
-ghost use Prim.Native.Nat.{ℕ, _+_, _*_, _<_, _≤_};
+ghost use mathlib.Core.Bool.{true, false, _&&_};
+ghost use Prim.Native.Nat.{ℕ, _+_, _<_, _≤_};
 ghost use lib.Dec.{eqb};
-ghost use lib.ListN.{length, getD};
+ghost use lib.ListN.{getD};
 ghost use mathlib.Core.List.{List};
-ghost use Rattle.paper.specs.Rule.{Block, Rule};
-ghost use Rattle.paper.specs.Grammar.{got, blocksTo, ruleOf, longest};
-ghost use Rattle.paper.specs.Plan.{endOf};
-ghost use Rattle.paper.specs.Columns.{among};
+ghost use Rattle.definitions.specs.Rule.{Block, Rule};
+ghost use Rattle.definitions.specs.Grammar.{got, mostVariables, mostBlocks, blocksTo, ruleOf, longest};
+ghost use Rattle.definitions.specs.Plan.{endOf};
 ghost use Rattle.closure.specs.Tables.{edgeIn, variableIn};
 ghost use Rattle.flows.specs.Flow.{Ruled, Told};
 ghost use Rattle.flows.specs.Marks.{carries, width, marksIn, partIn, has, readsFirst};
+
+// Where each block begins, and where the last one ends.
+pub type Places = [usize; BLOCKS + 1];
 
 // The byte at a place, 0 past the end.
 fn byte(s: &[u8], at: usize) -> u8
@@ -82,41 +89,25 @@ fn reads_first(s: &[u8], from: usize, to: usize, k: u8) -> bool
     false
 }
 
-// Whether a goto or a jump to block t stands from a place up to another.
-fn leads(s: &[u8], from: usize, to: usize, t: u8) -> bool
-    requires { ⌜ to ≤ longest ⌝ }
-    ensures { λ r. ⌜ r ≡ (has 0x30 t (marksIn (now (s .entry)) from to) || has 0x31 t (marksIn (now (s .entry)) from to)) ⌝ }
-{
-    holds(s, from, to, 0x30, t) || holds(s, from, to, 0x31, t)
-}
-
-// Whether block t is the entry, or some jump of the rule goes there.
-fn restarts(s: &[u8], t: u8) -> bool
-    requires { do ⌜ (← ⟦s.len()⟧) ≤ longest ⌝ }
-    ensures { λ r. ⌜ r ≡ (eqb t 0 || has 0x31 t (marksIn (now (s .entry)) 4 (length (now (s .entry))))) ⌝ }
-{
-    t == 0 || holds(s, 4, s.len(), 0x31, t)
-}
-
-// What each of n blocks reads first and what it sets: 16 tests for each, one for each variable.
+// What each of n blocks reads first, and what it sets.
 struct Touched {
-    reads: [bool; 1024],
-    sets: [bool; 1024],
+    reads: Variables,
+    sets: Variables,
 }
 
-fn uses(s: &[u8], n: usize, places: &[usize; 65]) -> Touched
-    requires { ⌜ (n ≤ 64) × ((b : ℕ) → b ≤ n → getD (now places) b 0 ≤ longest) ⌝ }
-    ensures { λ r. ⌜ ((b k : ℕ) → b < n → k < 16
+fn uses(s: &[u8], n: usize, places: &Places) -> Touched
+    requires { ⌜ (n ≤ mostBlocks) × ((b : ℕ) → b ≤ n → getD (now places) b 0 ≤ longest) ⌝ }
+    ensures { λ r. ⌜ ((b k : ℕ) → b < n → k < mostVariables
         → (variableIn (r .reads) b k ≡ readsFirst k false (partIn (now (s .entry)) (now (places .entry)) b))
         × (variableIn (r .sets) b k ≡ has 0x20 k (partIn (now (s .entry)) (now (places .entry)) b))) ⌝ }
 {
-    let mut reads = [false; 1024];
-    let mut sets = [false; 1024];
-    let end = n * 16;
+    let mut reads = [false; BLOCKS * VARIABLES];
+    let mut sets = [false; BLOCKS * VARIABLES];
+    let end = n * VARIABLES;
     let mut i = 0;
     while i < end {
-        let b = i / 16;
-        let k = (i % 16) as u8;
+        let b = i / VARIABLES;
+        let k = (i % VARIABLES) as u8;
         let from = places[b];
         let to = places[b + 1];
         reads[i] = reads_first(s, from, to, k);
@@ -126,52 +117,37 @@ fn uses(s: &[u8], n: usize, places: &[usize; 65]) -> Touched
     Touched { reads, sets }
 }
 
-// The blocks that each of n blocks names: 64 tests for each.
-fn named(s: &[u8], n: usize, places: &[usize; 65]) -> [bool; 4096]
-    requires { ⌜ (n ≤ 64) × ((b : ℕ) → b ≤ n → getD (now places) b 0 ≤ longest) ⌝ }
-    ensures { λ r. ⌜ ((b t : ℕ) → b < n → t < 64
-        → edgeIn r b t ≡ (has 0x30 t (partIn (now (s .entry)) (now (places .entry)) b)
-        || has 0x31 t (partIn (now (s .entry)) (now (places .entry)) b))) ⌝ }
+// The blocks that each of n blocks names by a goto, or by a jump, as the tag says.
+fn named(s: &[u8], n: usize, places: &Places, tag: u8) -> Edges
+    requires { ⌜ (n ≤ mostBlocks) × (carries tag ≡ true) × ((b : ℕ) → b ≤ n → getD (now places) b 0 ≤ longest) ⌝ }
+    ensures { λ r. ⌜ ((b t : ℕ) → b < n → t < mostBlocks → edgeIn r b t ≡ has tag t (partIn (now (s .entry)) (now (places .entry)) b)) ⌝ }
 {
-    let mut out = [false; 4096];
-    let end = n * 64;
+    let mut out = [false; BLOCKS * BLOCKS];
+    let end = n * BLOCKS;
     let mut i = 0;
     while i < end {
-        let b = i / 64;
-        let t = (i % 64) as u8;
+        let b = i / BLOCKS;
+        let t = (i % BLOCKS) as u8;
         let from = places[b];
         let to = places[b + 1];
-        out[i] = leads(s, from, to, t);
+        out[i] = holds(s, from, to, tag, t);
         i += 1;
     }
     out
 }
 
-// J.
-fn restarting(s: &[u8]) -> [bool; 64]
-    requires { do ⌜ (← ⟦s.len()⟧) ≤ longest ⌝ }
-    ensures { λ r. ⌜ ((t : ℕ) → t < 64 → among r t ≡ (eqb t 0 || has 0x31 t (marksIn (now (s .entry)) 4 (length (now (s .entry)))))) ⌝ }
-{
-    let mut out = [false; 64];
-    let mut t = 0;
-    while t < 64 {
-        out[t] = restarts(s, t as u8);
-        t += 1;
-    }
-    out
-}
-
 // Where each of n blocks begins and where the last one ends, as far as they can be read.
-fn places_of(s: &[u8], n: u8, v: u8) -> [usize; 65]
-    requires { ⌜ n ≤ 64 ⌝ }
+fn places_of(s: &[u8], n: u8, v: u8) -> Places
+    requires { ⌜ n ≤ mostBlocks ⌝ }
     ensures { λ r. ⌜ ((bs : List Block) (m : ℕ) → blocksTo n v (now (s .entry)) n ≡ got bs m → (b : ℕ) → b ≤ n → getD r b 0 ≡ endOf (blocksTo n v (now (s .entry)) b)) ⌝ }
 {
-    let mut out = [0usize; 65];
+    let mut out = [0usize; BLOCKS + 1];
     let mut at = 4;
     let mut b: u8 = 0;
     while b < n {
         out[b as usize] = at;
-        match read_block(s, at, v, n, b) {
+        let targets = targets_of(n, b);
+        match read_block(s, at, v, targets) {
             Read::Next(next) => {
                 at = next;
             }
@@ -185,18 +161,18 @@ fn places_of(s: &[u8], n: u8, v: u8) -> [usize; 65]
     out
 }
 
-// Where the blocks of a rule stand, and its flow: FV and BV, 16 tests for each block; the blocks that each names, 64 tests for each; J.
+// Where the blocks of a rule stand, and its flow: FV and BV, gotos and jumps.
 pub struct Flows {
-    pub places: [usize; 65],
-    pub fv: [bool; 1024],
-    pub bv: [bool; 1024],
-    pub names: [bool; 4096],
-    pub j: [bool; 64],
+    pub places: Places,
+    pub fv: Variables,
+    pub bv: Variables,
+    pub gotos: Edges,
+    pub jumps: Edges,
 }
 
 pub fn flow_of(s: &[u8]) -> Flows
     requires { ⌜ Ruled (now s) ⌝ }
-    ensures { λ f. ⌜ ((r : Rule) (m : ℕ) → ruleOf (now (s .entry)) ≡ got r m → Told r (now (s .entry)) (f .places) (f .fv) (f .bv) (f .names) (f .j)) ⌝ }
+    ensures { λ f. ⌜ ((r : Rule) (m : ℕ) → ruleOf (now (s .entry)) ≡ got r m → Told r (now (s .entry)) (f .places) (f .fv) (f .bv) (f .gotos) (f .jumps)) ⌝ }
 {
     let n = s[3];
     let v = s[1];
@@ -205,13 +181,13 @@ pub fn flow_of(s: &[u8]) -> Flows
     let touched = uses(s, count, &places);
     let fv = touched.reads;
     let bv = touched.sets;
-    let names = named(s, count, &places);
-    let j = restarting(s);
+    let gotos = named(s, count, &places, 0x30);
+    let jumps = named(s, count, &places, 0x31);
     Flows {
         places,
         fv,
         bv,
-        names,
-        j,
+        gotos,
+        jumps,
     }
 }

@@ -10,33 +10,33 @@ use lib.ListN.{length, take, drop, getD, length-append, length-take, length-drop
 use lib.Seq.{slice-cons, length-take-le}
 use lib.Dec.{leb, ltb, eqb}
 use borrow.Author.Tests.{eq-eqb, ne-eqb, eqb-true, leb-true, ltb-false, eqb-false, lt-leb, le-leb, not-true}
-use Rattle.paper.specs.declared.Refusal.{Refusal}
-use Rattle.paper.specs.declared.Reply.the-variants.{Done, Refused}
-use Rattle.paper.specs.Grammar.{Got, got, refused, then}
-use Rattle.paper.specs.Plan.{endOf}
-use Rattle.paper.specs.Pages.{wordAt, checkOf, pageIn, payloadOf, allZero, lengthOk, fillerOk, sizeOk, pageAt, payloadTo, unpacked}
-use Rattle.words.specs.Words.{over}
-use Rattle.words.proofs.Laws.{over-start, over-next}
+use Rattle.definitions.specs.declared.Refusal.{Refusal}
+use Rattle.definitions.specs.declared.Reply.the-variants.{Done, Refused}
+use Rattle.definitions.specs.Grammar.{Got, got, refused, then}
+use Rattle.definitions.specs.Plan.{endOf}
+use Rattle.definitions.specs.Pages.{mostPages, pageSize, payloadRoom, checkPlace, lengthIn, checkIn, checkOf, pageIn, payloadOf, allZero, lengthOk, fillerOk, sizeOk, pageAt, payloadTo, unpacked}
+use Rattle.buffers.specs.Words.{over}
+use Rattle.buffers.proofs.Laws.{over-start, over-next}
 use Rattle.pages.specs.Answers.{scanOf, Fits}
-use Rattle.paper.specs.Calls.{bytesIn}
+use Rattle.definitions.specs.Calls.{bytesIn}
 use Rattle.pages.specs.Refusals.{Page, Good}
 
 -- ---- the filler
 
-zero-step : (p : List ℕ) (i : ℕ) → i < 510 → 510 ≤ length p → allZero (drop i (take 510 p)) ≡ (eqb (getD p i 0) 0 && allZero (drop (i + 1) (take 510 p)))
+zero-step : (p : List ℕ) (i : ℕ) → i < checkPlace → checkPlace ≤ length p → allZero (drop i (take checkPlace p)) ≡ (eqb (getD p i 0) 0 && allZero (drop (i + 1) (take checkPlace p)))
 unfolding allZero
-zero-step p i h l = ap allZero (slice-cons i 510 p 0 h l) ∙ ap (λ (n : ℕ). eqb (getD p i 0) 0 && allZero (drop n (take 510 p))) (sym (add-one i))
+zero-step p i h l = ap allZero (slice-cons i checkPlace p 0 h l) ∙ ap (λ (n : ℕ). eqb (getD p i 0) 0 && allZero (drop n (take checkPlace p))) (sym (add-one i))
 
-module _ (p : List ℕ) (i : ℕ) (l : length p ≡ 512) (inv : fillerOk p ≡ allZero (drop i (take 510 p))) where
-  pub dirty : i < 510 → (getD p i 0 ≡ 0 → ⊥) → false ≡ fillerOk p
+module _ (p : List ℕ) (i : ℕ) (l : length p ≡ pageSize) (inv : fillerOk p ≡ allZero (drop i (take checkPlace p))) where
+  pub dirty : i < checkPlace → (getD p i 0 ≡ 0 → ⊥) → false ≡ fillerOk p
   dirty h d = sym (inv ∙ zero-step p i h (omega arith) ∙ rw (ne-eqb (getD p i 0) 0 d))
 
-  pub clean : i < 510 → getD p i 0 ≡ 0 → fillerOk p ≡ allZero (drop (i + 1) (take 510 p))
+  pub clean : i < checkPlace → getD p i 0 ≡ 0 → fillerOk p ≡ allZero (drop (i + 1) (take checkPlace p))
   clean h d = inv ∙ zero-step p i h (omega arith) ∙ rw (eq-eqb (getD p i 0) 0 d)
 
-  pub cleared : 510 ≤ i → true ≡ fillerOk p
+  pub cleared : checkPlace ≤ i → true ≡ fillerOk p
   unfolding allZero
-  cleared h = sym (inv ∙ ap allZero (drop-of-length-le (take 510 p) {i = i} (omega (arith, length-take-le 510 p (omega arith)))))
+  cleared h = sym (inv ∙ ap allZero (drop-of-length-le (take checkPlace p) {i = i} (omega (arith, length-take-le checkPlace p (omega arith)))))
 
 -- ---- a payload's length
 
@@ -45,11 +45,11 @@ module _ (last : Bool) (n : ℕ) where
   unfolding lengthOk
   length-low e h = rw (e, lt-leb 1 n h)
 
-  pub length-last : last ≡ true → 1 ≤ n → leb n 508 ≡ lengthOk last n
+  pub length-last : last ≡ true → 1 ≤ n → leb n payloadRoom ≡ lengthOk last n
   unfolding lengthOk
   length-last e h = rw (e, le-leb 1 n h)
 
-  pub length-full : last ≡ false → eqb n 508 ≡ lengthOk last n
+  pub length-full : last ≡ false → eqb n payloadRoom ≡ lengthOk last n
   unfolding lengthOk
   length-full e = rw e
 
@@ -61,32 +61,32 @@ pub and-right : (a b : Bool) → (a && b) ≡ true → b ≡ true
 and-right true b h = h
 and-right false b h = cc
 
-pub length-some : (last : Bool) (n : ℕ) → lengthOk last n ≡ true → (1 ≤ n) × (n ≤ 508)
+pub length-some : (last : Bool) (n : ℕ) → lengthOk last n ≡ true → (1 ≤ n) × (n ≤ payloadRoom)
 unfolding lengthOk
-length-some true n h = (leb-true 1 n (and-left (leb 1 n) (leb n 508) h), leb-true n 508 (and-right (leb 1 n) (leb n 508) h))
-length-some false n h = let e = eqb-true n 508 h in (omega arith, omega arith)
+length-some true n h = (leb-true 1 n (and-left (leb 1 n) (leb n payloadRoom) h), leb-true n payloadRoom (and-right (leb 1 n) (leb n payloadRoom) h))
+length-some false n h = let e = eqb-true n payloadRoom h in (omega arith, omega arith)
 
-pub length-not-last : (last : Bool) (n : ℕ) → last ≡ false → lengthOk last n ≡ true → n ≡ 508
+pub length-not-last : (last : Bool) (n : ℕ) → last ≡ false → lengthOk last n ≡ true → n ≡ payloadRoom
 unfolding lengthOk
-length-not-last last n e h = eqb-true n 508 (rw e at h)
+length-not-last last n e h = eqb-true n payloadRoom (rw e at h)
 
 -- ---- parts of a file
 
-pub page-part : (file : List ℕ) (k : ℕ) → take (k * 512 + 512 - k * 512) (drop (k * 512) file) ≡ pageIn file k
+pub page-part : (file : List ℕ) (k : ℕ) → take (k * pageSize + pageSize - k * pageSize) (drop (k * pageSize) file) ≡ pageIn file k
 page-part file k =
-    let e : k * 512 + 512 - k * 512 ≡ 512 = omega arith in
+    let e : k * pageSize + pageSize - k * pageSize ≡ pageSize = omega arith in
     rw e
 
-pub length-pageIn : (file : List ℕ) (k : ℕ) → k * 512 + 512 ≤ length file → length (pageIn file k) ≡ 512
-length-pageIn file k h = length-take-le 512 (drop (k * 512) file) (omega (arith, length-drop (k * 512) file))
+pub length-pageIn : (file : List ℕ) (k : ℕ) → k * pageSize + pageSize ≤ length file → length (pageIn file k) ≡ pageSize
+length-pageIn file k h = length-take-le pageSize (drop (k * pageSize) file) (omega (arith, length-drop (k * pageSize) file))
 
-pub payload-part : (p : List ℕ) (n : ℕ) → n ≡ wordAt p 0 → take (n + 2 - 2) (drop 2 p) ≡ payloadOf p
+pub payload-part : (p : List ℕ) (n : ℕ) → n ≡ lengthIn p → take (n + 2 - 2) (drop 2 p) ≡ payloadOf p
 payload-part p n e =
-    let s : n + 2 - 2 ≡ wordAt p 0 = omega arith in
+    let s : n + 2 - 2 ≡ lengthIn p = omega arith in
     rw s
 
-pub length-payload : (p : List ℕ) → length p ≡ 512 → wordAt p 0 ≤ 508 → length (payloadOf p) ≡ wordAt p 0
-length-payload p e h = length-take-le (wordAt p 0) (drop 2 p) (omega (arith, length-drop 2 p))
+pub length-payload : (p : List ℕ) → length p ≡ pageSize → lengthIn p ≤ payloadRoom → length (payloadOf p) ≡ lengthIn p
+length-payload p e h = length-take-le (lengthIn p) (drop 2 p) (omega (arith, length-drop 2 p))
 
 -- ---- what an answer says
 
@@ -120,54 +120,54 @@ absurd-got h = let z : _≡_ {A = ℕ} 0 1 = cc in absurd (omega arith)
 module _ (last : Bool) (p : List ℕ) (k : ℕ) where
   pub page-got : Page last p k → pageAt last p k ≡ got (payloadOf p) (k + 1)
   unfolding pageAt
-  page-got h = rw (eq-eqb (wordAt p 510) (checkOf k p) (h .check), h .size, h .filler)
+  page-got h = rw (eq-eqb (checkIn p) (checkOf k p) (h .check), h .size, h .filler)
 
-  pub page-short : Page last p k → wordAt p 0 ≤ 508
-  page-short h = length-some last (wordAt p 0) (h .size) .1
+  pub page-short : Page last p k → lengthIn p ≤ payloadRoom
+  page-short h = length-some last (lengthIn p) (h .size) .1
 
   pub got-page : (xs : List ℕ) (n : ℕ) → pageAt last p k ≡ got xs n → Page last p k
   unfolding pageAt
-  got-page xs n e = go (eqb (wordAt p 510) (checkOf k p)) (lengthOk last (wordAt p 0)) (fillerOk p) refl refl refl e
+  got-page xs n e = go (eqb (checkIn p) (checkOf k p)) (lengthOk last (lengthIn p)) (fillerOk p) refl refl refl e
     where
-      go : (a b c : Bool) → eqb (wordAt p 510) (checkOf k p) ≡ a → lengthOk last (wordAt p 0) ≡ b → fillerOk p ≡ c
+      go : (a b c : Bool) → eqb (checkIn p) (checkOf k p) ≡ a → lengthOk last (lengthIn p) ≡ b → fillerOk p ≡ c
           → cond (not a) (refused 2 k) (cond (not (b && c)) (refused 3 k) (got (payloadOf p) (k + 1))) ≡ got xs n → Page last p k
-      go true true true ea eb ec h = record { check = eqb-true (wordAt p 510) (checkOf k p) ea; size = eb; filler = ec }
+      go true true true ea eb ec h = record { check = eqb-true (checkIn p) (checkOf k p) ea; size = eb; filler = ec }
       go true true false ea eb ec h = absurd-got h
       go true false c ea eb ec h = absurd-got h
       go false b c ea eb ec h = absurd-got h
 
-  pub bad-check : (wordAt p 510 ≡ checkOf k p → ⊥) → pageAt last p k ≡ refused 2 k
+  pub bad-check : (checkIn p ≡ checkOf k p → ⊥) → pageAt last p k ≡ refused 2 k
   unfolding pageAt
-  bad-check h = rw (ne-eqb (wordAt p 510) (checkOf k p) h)
+  bad-check h = rw (ne-eqb (checkIn p) (checkOf k p) h)
 
-  pub bad-form : wordAt p 510 ≡ checkOf k p → (lengthOk last (wordAt p 0) && fillerOk p) ≡ false → pageAt last p k ≡ refused 3 k
+  pub bad-form : checkIn p ≡ checkOf k p → (lengthOk last (lengthIn p) && fillerOk p) ≡ false → pageAt last p k ≡ refused 3 k
   unfolding pageAt
-  bad-form e h = rw (eq-eqb (wordAt p 510) (checkOf k p) e, h)
+  bad-form e h = rw (eq-eqb (checkIn p) (checkOf k p) e, h)
 
   -- the same as `scan_page` has it: a and b are the check as it stands and as it should be, n is the length
-  module _ (a b n : ℕ) (ea : a ≡ wordAt p 510) (eb : b ≡ checkOf k p) where
+  module _ (a b n : ℕ) (ea : a ≡ checkIn p) (eb : b ≡ checkOf k p) where
     pub page-2 : (a ≡ b → ⊥) → Refused (record { number = 2; place = k }) ≡ scanOf (pageAt last p k)
     unfolding scanOf
     page-2 h = sym (ap scanOf (bad-check (λ e. h (ea ∙ e ∙ sym eb))))
 
-    module _ (e : a ≡ b) (en : n ≡ wordAt p 0) where
+    module _ (e : a ≡ b) (en : n ≡ lengthIn p) where
       pub page-3 : (lengthOk last n && fillerOk p) ≡ false → Refused (record { number = 3; place = k }) ≡ scanOf (pageAt last p k)
       unfolding scanOf
       page-3 h = sym (ap scanOf (bad-form (sym ea ∙ e ∙ eb) (rw en at h)))
 
-      pub page-done : length p ≡ 512 → lengthOk last n ≡ true → fillerOk p ≡ true → Done n ≡ scanOf (pageAt last p k)
+      pub page-done : length p ≡ pageSize → lengthOk last n ≡ true → fillerOk p ≡ true → Done n ≡ scanOf (pageAt last p k)
       unfolding scanOf
       page-done l h f =
           let g : Page last p k = record { check = sym ea ∙ e ∙ eb; size = rw en at h; filler = f } in
           rw (page-got g) (ap Done (en ∙ sym (length-payload p l (page-short g))))
 
-  pub page-room : (n : ℕ) → Done n ≡ scanOf (pageAt last p k) → n ≤ 508
+  pub page-room : (n : ℕ) → Done n ≡ scanOf (pageAt last p k) → n ≤ payloadRoom
   unfolding bytesIn
   page-room n e =
       let g = scan-got (pageAt last p k) n (sym e) in
       let ok = got-page (bytesIn (pageAt last p k)) (endOf (pageAt last p k)) (g .0) in
       let l : length (payloadOf p) ≡ n = ap (λ (q : Got (List ℕ)). length (bytesIn q)) (sym (page-got ok)) ∙ g .1 in
-      omega (arith, page-short ok, length-take (wordAt p 0) (drop 2 p), min-le-left (wordAt p 0) (length (drop 2 p)))
+      omega (arith, page-short ok, length-take (lengthIn p) (drop 2 p), min-le-left (lengthIn p) (length (drop 2 p)))
 
 -- ---- the pages one after the other
 
@@ -248,7 +248,7 @@ module _ (file : List ℕ) (P : ℕ) where
 
   -- a turn of `unpack`: p is the page, and part what it holds
   module _ (k room : ℕ) (h : k < P) (f : Fits (payloadTo file P P) room) (p : List ℕ) (ep : p ≡ pageIn file k) where
-    pub turn-short : wordAt p 0 ≤ 508
+    pub turn-short : lengthIn p ≤ payloadRoom
     turn-short = rw ep (page-short (eqb (k + 1) P) (pageIn file k) k (within P room f k h))
 
     module _ (part : List ℕ) (ea : part ≡ payloadOf p) where
@@ -270,7 +270,7 @@ module _ (file : List ℕ) (P : ℕ) where
 
 -- ---- the whole file
 
-pub whole : (file : List ℕ) → sizeOk (length file) ≡ true → unpacked file ≡ payloadTo file (length file / 512) (length file / 512)
+pub whole : (file : List ℕ) → sizeOk (length file) ≡ true → unpacked file ≡ payloadTo file (length file / pageSize) (length file / pageSize)
 unfolding unpacked
 whole file h = rw h
 
@@ -278,12 +278,12 @@ pub wrong-size : (file : List ℕ) → sizeOk (length file) ≡ false → unpack
 unfolding unpacked
 wrong-size file h = rw h
 
-pub size-is : (n : ℕ) → sizeOk n ≡ true → (1 ≤ n) × ((n ≤ 4096) × (n % 512 ≡ 0))
+pub size-is : (n : ℕ) → sizeOk n ≡ true → (1 ≤ n) × ((n ≤ (mostPages * pageSize)) × (n % pageSize ≡ 0))
 size-is n h =
-    let rest = and-right (not (eqb n 0)) (not (ltb 4096 n) && eqb (n % 512) 0) h in
-    let some : n ≡ 0 → ⊥ = eqb-false n 0 (not-true (eqb n 0) (and-left (not (eqb n 0)) (not (ltb 4096 n) && eqb (n % 512) 0) h)) in
-    let most = ltb-false 4096 n (not-true (ltb 4096 n) (and-left (not (ltb 4096 n)) (eqb (n % 512) 0) rest)) in
-    (pos-of-ne n some, (most, eqb-true (n % 512) 0 (and-right (not (ltb 4096 n)) (eqb (n % 512) 0) rest)))
+    let rest = and-right (not (eqb n 0)) (not (ltb (mostPages * pageSize) n) && eqb (n % pageSize) 0) h in
+    let some : n ≡ 0 → ⊥ = eqb-false n 0 (not-true (eqb n 0) (and-left (not (eqb n 0)) (not (ltb (mostPages * pageSize) n) && eqb (n % pageSize) 0) h)) in
+    let most = ltb-false (mostPages * pageSize) n (not-true (ltb (mostPages * pageSize) n) (and-left (not (ltb (mostPages * pageSize) n)) (eqb (n % pageSize) 0) rest)) in
+    (pos-of-ne n some, (most, eqb-true (n % pageSize) 0 (and-right (not (ltb (mostPages * pageSize) n)) (eqb (n % pageSize) 0) rest)))
   where
     pos-of-ne : (n : ℕ) → (n ≡ 0 → ⊥) → 1 ≤ n
     pos-of-ne zero h = absurd (h refl)
@@ -301,11 +301,11 @@ module _ (file : List ℕ) (room : ℕ) (f : Fits (unpacked file) room) where
   pub ready-size : sizeOk (length file) ≡ true
   ready-size = got-size file (bytesIn (unpacked file)) (endOf (unpacked file)) (fits-got (unpacked file) room f .0)
 
-  pub ready : Fits (payloadTo file (length file / 512) (length file / 512)) room
+  pub ready : Fits (payloadTo file (length file / pageSize) (length file / pageSize)) room
   ready = rw (whole file ready-size) at f
 
   -- all pages are unpacked
-  pub unpack-law : (out₀ out : List ℕ) (k : ℕ) → k ≡ length file / 512 → out ≡ over out₀ 0 (bytesIn (payloadTo file (length file / 512) k))
+  pub unpack-law : (out₀ out : List ℕ) (k : ℕ) → k ≡ length file / pageSize → out ≡ over out₀ 0 (bytesIn (payloadTo file (length file / pageSize) k))
       → out ≡ bytesIn (unpacked file) ++ drop (length (bytesIn (unpacked file))) out₀
   unpack-law out₀ out k e eo = eo ∙ rw (e, ← whole file ready-size, over-start)
 

@@ -8,8 +8,8 @@ use mathlib.Core.List.{List, [], _++_}
 use lib.ListN.{length}
 use lib.Dec.{eqb}
 use borrow.Author.Tests.{eqb-true, eqb-false}
-use Rattle.paper.specs.Grammar.{Got, got, refused}
-use Rattle.paper.specs.Pages.{wordAt, checkOf, pageIn, payloadOf, lengthOk, fillerOk, sizeOk, pageAt, payloadTo, unpacked}
+use Rattle.definitions.specs.Grammar.{Got, got, refused}
+use Rattle.definitions.specs.Pages.{pageSize, lengthIn, checkIn, checkOf, pageIn, payloadOf, lengthOk, fillerOk, sizeOk, pageAt, payloadTo, unpacked}
 use Rattle.pages.specs.Answers.{Fits}
 use Rattle.pages.specs.Refusals.{Good, Refuses, size, check, form}
 use Rattle.pages.proofs.Reading.{absurd-got, joined, page-got, bad-check, bad-form, off, within, whole, wrong-size}
@@ -31,11 +31,11 @@ clear file P (suc k) g =
 pub refuses : (file : List ℕ) (i j : ℕ) → Refuses file i j → unpacked file ≡ refused i j
 refuses file _ _ (size h) = wrong-size file h
 refuses file _ _ (check {k} h l g c) =
-    let P = length file / 512 in
+    let P = length file / pageSize in
     let a = clear file P k g in
     whole file h ∙ off file P k 2 k (a .xs) (a .n) l (a .all) (bad-check (eqb (k + 1) P) (pageIn file k) k c)
 refuses file _ _ (form {k} h l g c f) =
-    let P = length file / 512 in
+    let P = length file / pageSize in
     let a = clear file P k g in
     whole file h ∙ off file P k 3 k (a .xs) (a .n) l (a .all) (bad-form (eqb (k + 1) P) (pageIn file k) k c f)
 
@@ -66,31 +66,31 @@ first file P (suc m) i j e = go (payloadTo file P m) (pageAt (eqb (m + 1) P) (pa
         record { k = f .k; here = omega (arith, f .here); before = f .before; bad = f .bad }
 
 module _ (file : List ℕ) (ok : sizeOk (length file) ≡ true) where
-  refused-page : (k i j : ℕ) → k < length file / 512 → Good file (length file / 512) k → pageAt (eqb (k + 1) (length file / 512)) (pageIn file k) k ≡ refused i j → Refuses file i j
+  refused-page : (k i j : ℕ) → k < length file / pageSize → Good file (length file / pageSize) k → pageAt (eqb (k + 1) (length file / pageSize)) (pageIn file k) k ≡ refused i j → Refuses file i j
   unfolding pageAt
   refused-page k i j h g e =
       let p = pageIn file k in
-      let last = eqb (k + 1) (length file / 512) in
-      go (eqb (wordAt p 510) (checkOf k p)) (lengthOk last (wordAt p 0) && fillerOk p) refl refl e
+      let last = eqb (k + 1) (length file / pageSize) in
+      go (eqb (checkIn p) (checkOf k p)) (lengthOk last (lengthIn p) && fillerOk p) refl refl e
     where
-      go : (a b : Bool) → eqb (wordAt (pageIn file k) 510) (checkOf k (pageIn file k)) ≡ a → (lengthOk (eqb (k + 1) (length file / 512)) (wordAt (pageIn file k) 0) && fillerOk (pageIn file k)) ≡ b
+      go : (a b : Bool) → eqb (checkIn (pageIn file k)) (checkOf k (pageIn file k)) ≡ a → (lengthOk (eqb (k + 1) (length file / pageSize)) (lengthIn (pageIn file k)) && fillerOk (pageIn file k)) ≡ b
           → cond (not a) (refused 2 k) (cond (not b) (refused 3 k) (got (payloadOf (pageIn file k)) (k + 1))) ≡ refused i j → Refuses file i j
       go true true ea eb q = absurd-got (sym q)
       go true false ea eb q =
           let ei : 3 ≡ i = cc in
           let ej : k ≡ j = cc in
-          rw (← ei, ← ej) (form ok h g (eqb-true (wordAt (pageIn file k) 510) (checkOf k (pageIn file k)) ea) eb)
+          rw (← ei, ← ej) (form ok h g (eqb-true (checkIn (pageIn file k)) (checkOf k (pageIn file k)) ea) eb)
       go false b ea eb q =
           let ei : 2 ≡ i = cc in
           let ej : k ≡ j = cc in
-          rw (← ei, ← ej) (check ok h g (eqb-false (wordAt (pageIn file k) 510) (checkOf k (pageIn file k)) ea))
+          rw (← ei, ← ej) (check ok h g (eqb-false (checkIn (pageIn file k)) (checkOf k (pageIn file k)) ea))
 
 pub refused-only : (file : List ℕ) (i j : ℕ) → unpacked file ≡ refused i j → Refuses file i j
 refused-only file i j e = go (sizeOk (length file)) refl
   where
     go : (b : Bool) → sizeOk (length file) ≡ b → Refuses file i j
     go true h =
-        let f = first file (length file / 512) (length file / 512) i j (sym (whole file h) ∙ e) in
+        let f = first file (length file / pageSize) (length file / pageSize) i j (sym (whole file h) ∙ e) in
         refused-page file h (f .k) i j (f .here) (f .before) (f .bad)
     go false h =
         let q : _≡_ {A = Got (List ℕ)} (refused 1 0) (refused i j) = sym (wrong-size file h) ∙ e in

@@ -11,9 +11,9 @@ use lib.ListN.{length, take, drop, getD, replicate, length-append, length-take, 
 use lib.Seq.{take-all, take-take, take-at, drop-at, getD-drop, getD-append-add, take-append-le, drop-append-le, drop-drop, take-add, drop-cons, length-take-le}
 use lib.Dec.{eqb}
 use borrow.Author.Tests.{eq-eqb, ne-eqb, le-leb, le-ltb, eqb-true}
-use Rattle.paper.specs.Grammar.{Got, got, refused}
-use Rattle.paper.specs.Plan.{le16}
-use Rattle.paper.specs.Pages.{wordAt, checkOf, pageBody, pageOf, pagesFor, pieceOf, pagesTo, fileOf, pageIn, payloadOf, allZero, lengthOk, fillerOk, pageAt, payloadTo, unpacked}
+use Rattle.definitions.specs.Grammar.{Got, got, refused, longest}
+use Rattle.definitions.specs.Plan.{le16}
+use Rattle.definitions.specs.Pages.{mostPages, pageSize, payloadRoom, checkPlace, wordAt, lengthIn, checkIn, checkOf, pageBody, pageOf, pagesFor, pieceOf, pagesTo, fileOf, pageIn, payloadOf, allZero, lengthOk, fillerOk, pageAt, payloadTo, unpacked}
 use Rattle.pages.specs.Refusals.{Page}
 use Rattle.pages.proofs.Page.{checkOf-append, length-body, length-page}
 use Rattle.pages.proofs.Writing.{piece-le, length-pagesTo, length-file}
@@ -26,18 +26,18 @@ unfolding allZero
 all-zero zero = refl
 all-zero (suc n) = all-zero n
 
-module _ (k : ℕ) (xs : List ℕ) (h : length xs ≤ 508) where
-  page-length : wordAt (pageOf k xs) 0 ≡ length xs
-  unfolding pageOf pageBody
+module _ (k : ℕ) (xs : List ℕ) (h : length xs ≤ payloadRoom) where
+  page-length : lengthIn (pageOf k xs) ≡ length xs
+  unfolding lengthIn pageOf pageBody
   page-length = omega arith
 
-  page-check : wordAt (pageOf k xs) 510 ≡ checkOf k (pageOf k xs)
+  page-check : checkIn (pageOf k xs) ≡ checkOf k (pageOf k xs)
   unfolding pageOf
   page-check =
       let b = pageBody xs in
       let c = checkOf k b in
       let lb = length-body xs h in
-      let g : (i : ℕ) → getD (b ++ le16 c) (510 + i) 0 ≡ getD (le16 c) i 0 = λ i. ap (λ (n : ℕ). getD (b ++ le16 c) (n + i) 0) (sym lb) ∙ getD-append-add b (le16 c) i 0 in
+      let g : (i : ℕ) → getD (b ++ le16 c) (checkPlace + i) 0 ≡ getD (le16 c) i 0 = λ i. ap (λ (n : ℕ). getD (b ++ le16 c) (n + i) 0) (sym lb) ∙ getD-append-add b (le16 c) i 0 in
       let e : checkOf k (b ++ le16 c) ≡ c = checkOf-append b (le16 c) k (omega arith) in
       omega (arith, g 0, g 1)
 
@@ -45,17 +45,17 @@ module _ (k : ℕ) (xs : List ℕ) (h : length xs ≤ 508) where
   unfolding pageOf pageBody
   page-filler =
       let b = pageBody xs in
-      let t : take 510 (b ++ le16 (checkOf k b)) ≡ b = take-at b (le16 (checkOf k b)) 510 (length-body xs h) in
-      let d : drop (length xs + 2) b ≡ replicate (508 - length xs) 0 =
-      ap (λ (n : ℕ). drop n b) (add-comm (length xs) 2) ∙ sym (drop-drop (length xs) 2 b) ∙ drop-at xs (replicate (508 - length xs) 0) (length xs) refl in
-      ap (λ (n : ℕ). allZero (drop (n + 2) (take 510 (pageOf k xs)))) page-length ∙ ap (λ (l : List ℕ). allZero (drop (length xs + 2) l)) t ∙ ap allZero d ∙ all-zero (508 - length xs)
+      let t : take checkPlace (b ++ le16 (checkOf k b)) ≡ b = take-at b (le16 (checkOf k b)) checkPlace (length-body xs h) in
+      let d : drop (length xs + 2) b ≡ replicate (payloadRoom - length xs) 0 =
+      ap (λ (n : ℕ). drop n b) (add-comm (length xs) 2) ∙ sym (drop-drop (length xs) 2 b) ∙ drop-at xs (replicate (payloadRoom - length xs) 0) (length xs) refl in
+      ap (λ (n : ℕ). allZero (drop (n + 2) (take checkPlace (pageOf k xs)))) page-length ∙ ap (λ (l : List ℕ). allZero (drop (length xs + 2) l)) t ∙ ap allZero d ∙ all-zero (payloadRoom - length xs)
 
   page-payload : payloadOf (pageOf k xs) ≡ xs
   unfolding pageOf pageBody
   page-payload =
       ap (λ (n : ℕ). take n (drop 2 (pageOf k xs))) page-length
-      ∙ ap (take (length xs)) (append-assoc xs (replicate (508 - length xs) 0) (le16 (checkOf k (pageBody xs))))
-      ∙ take-at xs (replicate (508 - length xs) 0 ++ le16 (checkOf k (pageBody xs))) (length xs) refl
+      ∙ ap (take (length xs)) (append-assoc xs (replicate (payloadRoom - length xs) 0) (le16 (checkOf k (pageBody xs))))
+      ∙ take-at xs (replicate (payloadRoom - length xs) 0 ++ le16 (checkOf k (pageBody xs))) (length xs) refl
 
   page-back : (last : Bool) → lengthOk last (length xs) ≡ true → pageAt last (pageOf k xs) k ≡ got xs (k + 1)
   page-back last ok =
@@ -63,17 +63,17 @@ module _ (k : ℕ) (xs : List ℕ) (h : length xs ≤ 508) where
 
 -- ---- the pages of a file that was written
 
-last-page : (rule : List ℕ) (m : ℕ) → take 512 (drop (m * 512) (pagesTo rule m ++ pageOf m (pieceOf rule m))) ≡ pageOf m (pieceOf rule m)
+last-page : (rule : List ℕ) (m : ℕ) → take pageSize (drop (m * pageSize) (pagesTo rule m ++ pageOf m (pieceOf rule m))) ≡ pageOf m (pieceOf rule m)
 last-page rule m =
-    ap (take 512) (drop-at (pagesTo rule m) (pageOf m (pieceOf rule m)) (m * 512) (length-pagesTo rule m))
-    ∙ take-all 512 (pageOf m (pieceOf rule m)) (omega (arith, length-page m (pieceOf rule m) (piece-le rule m)))
+    ap (take pageSize) (drop-at (pagesTo rule m) (pageOf m (pieceOf rule m)) (m * pageSize) (length-pagesTo rule m))
+    ∙ take-all pageSize (pageOf m (pieceOf rule m)) (omega (arith, length-page m (pieceOf rule m) (piece-le rule m)))
 
-early-page : (rule : List ℕ) (m k : ℕ) → k < m → take 512 (drop (k * 512) (pagesTo rule m ++ pageOf m (pieceOf rule m))) ≡ pageIn (pagesTo rule m) k
+early-page : (rule : List ℕ) (m k : ℕ) → k < m → take pageSize (drop (k * pageSize) (pagesTo rule m ++ pageOf m (pieceOf rule m))) ≡ pageIn (pagesTo rule m) k
 early-page rule m k l =
     let p = pagesTo rule m in
     let lp = length-pagesTo rule m in
-    ap (take 512) (drop-append-le (k * 512) p (pageOf m (pieceOf rule m)) (omega arith))
-    ∙ take-append-le 512 (drop (k * 512) p) (pageOf m (pieceOf rule m)) (omega (arith, length-drop (k * 512) p))
+    ap (take pageSize) (drop-append-le (k * pageSize) p (pageOf m (pieceOf rule m)) (omega arith))
+    ∙ take-append-le pageSize (drop (k * pageSize) p) (pageOf m (pieceOf rule m)) (omega (arith, length-drop (k * pageSize) p))
 
 page-of-file : (rule : List ℕ) (n k : ℕ) → k < n → pageIn (pagesTo rule n) k ≡ pageOf k (pieceOf rule k)
 unfolding pagesTo
@@ -85,11 +85,11 @@ page-of-file rule (suc m) k h =
 -- ---- reading what was written
 
 module _ (rule : List ℕ) (h1 : 1 ≤ length rule) where
-  piece-length-full : (k : ℕ) → k * 508 + 508 ≤ length rule → length (pieceOf rule k) ≡ 508
-  piece-length-full k h = length-take 508 (drop (k * 508) rule) ∙ min-eq-left (omega (arith, length-drop (k * 508) rule))
+  piece-length-full : (k : ℕ) → k * payloadRoom + payloadRoom ≤ length rule → length (pieceOf rule k) ≡ payloadRoom
+  piece-length-full k h = length-take payloadRoom (drop (k * payloadRoom) rule) ∙ min-eq-left (omega (arith, length-drop (k * payloadRoom) rule))
 
-  piece-length-last : (k : ℕ) → length rule ≤ k * 508 + 508 → length (pieceOf rule k) ≡ length rule - k * 508
-  piece-length-last k h = length-take 508 (drop (k * 508) rule) ∙ min-eq-right (omega (arith, length-drop (k * 508) rule)) ∙ length-drop (k * 508) rule
+  piece-length-last : (k : ℕ) → length rule ≤ k * payloadRoom + payloadRoom → length (pieceOf rule k) ≡ length rule - k * payloadRoom
+  piece-length-last k h = length-take payloadRoom (drop (k * payloadRoom) rule) ∙ min-eq-right (omega (arith, length-drop (k * payloadRoom) rule)) ∙ length-drop (k * payloadRoom) rule
 
   piece-ok : (k : ℕ) → k < pagesFor (length rule) → lengthOk (eqb (k + 1) (pagesFor (length rule))) (length (pieceOf rule k)) ≡ true
   unfolding lengthOk
@@ -99,29 +99,29 @@ module _ (rule : List ℕ) (h1 : 1 ≤ length rule) where
       here e =
           let e1 : k + 1 ≡ pagesFor (length rule) = omega arith in
           let l = piece-length-last k (omega arith) in
-          rw (eq-eqb (k + 1) (pagesFor (length rule)) e1, le-leb 1 (length (pieceOf rule k)) (omega (arith, l)), le-leb (length (pieceOf rule k)) 508 (piece-le rule k))
+          rw (eq-eqb (k + 1) (pagesFor (length rule)) e1, le-leb 1 (length (pieceOf rule k)) (omega (arith, l)), le-leb (length (pieceOf rule k)) payloadRoom (piece-le rule k))
 
       before : suc k < pagesFor (length rule) → lengthOk (eqb (k + 1) (pagesFor (length rule))) (length (pieceOf rule k)) ≡ true
       before l =
-          rw (ne-eqb (k + 1) (pagesFor (length rule)) (λ (e : k + 1 ≡ pagesFor (length rule)). omega arith)) (eq-eqb (length (pieceOf rule k)) 508 (piece-length-full k (omega arith)))
+          rw (ne-eqb (k + 1) (pagesFor (length rule)) (λ (e : k + 1 ≡ pagesFor (length rule)). omega arith)) (eq-eqb (length (pieceOf rule k)) payloadRoom (piece-length-full k (omega arith)))
 
   -- the first k pages hold the first k * 508 bytes
-  held-back : (k : ℕ) → k ≤ pagesFor (length rule) → payloadTo (fileOf rule) (pagesFor (length rule)) k ≡ got (take (k * 508) rule) k
+  held-back : (k : ℕ) → k ≤ pagesFor (length rule) → payloadTo (fileOf rule) (pagesFor (length rule)) k ≡ got (take (k * payloadRoom) rule) k
   unfolding payloadTo fileOf
   held-back zero h = refl
   held-back (suc k) h =
-      let e : suc k * 508 ≡ k * 508 + 508 = omega arith in
+      let e : suc k * payloadRoom ≡ k * payloadRoom + payloadRoom = omega arith in
       let p : pageAt (eqb (k + 1) (pagesFor (length rule))) (pageIn (fileOf rule) k) k ≡ got (pieceOf rule k) (k + 1) =
       rw (page-of-file rule (pagesFor (length rule)) k h) (page-back k (pieceOf rule k) (piece-le rule k) (eqb (k + 1) (pagesFor (length rule))) (piece-ok k h)) in
-      rw (held-back k (omega arith), p, e, take-add (k * 508) 508 rule, add-one)
+      rw (held-back k (omega arith), p, e, take-add (k * payloadRoom) payloadRoom rule, add-one)
 
   -- what is written is read back
-  pub write-read : length rule ≤ 4064 → unpacked (fileOf rule) ≡ got rule (pagesFor (length rule))
+  pub write-read : length rule ≤ longest → unpacked (fileOf rule) ≡ got rule (pagesFor (length rule))
   unfolding unpacked
   write-read h2 =
       let l = length-file rule in
-      let P : length (fileOf rule) / 512 ≡ pagesFor (length rule) = omega arith in
-      rw (ne-eqb (length (fileOf rule)) 0 (λ (e : length (fileOf rule) ≡ 0). omega arith), le-ltb 4096 (length (fileOf rule)) (omega arith), eq-eqb (length (fileOf rule) % 512) 0 (omega arith), P, held-back (pagesFor (length rule)) (omega arith), take-all (pagesFor (length rule) * 508) rule (omega arith))
+      let P : length (fileOf rule) / pageSize ≡ pagesFor (length rule) = omega arith in
+      rw (ne-eqb (length (fileOf rule)) 0 (λ (e : length (fileOf rule) ≡ 0). omega arith), le-ltb (mostPages * pageSize) (length (fileOf rule)) (omega arith), eq-eqb (length (fileOf rule) % pageSize) 0 (omega arith), P, held-back (pagesFor (length rule)) (omega arith), take-all (pagesFor (length rule) * payloadRoom) rule (omega arith))
 
 -- ---- bytes, in a form that a slice of bytes meets at every index
 
@@ -163,42 +163,42 @@ zeros (x ∷ xs) h =
     let i = zeros xs (and-right (eqb x 0) (allZero xs) h) in
     rw e (ap (λ (l : List ℕ). 0 ∷ l) i)
 
-module _ (last : Bool) (p : List ℕ) (k : ℕ) (l : length p ≡ 512) (b : Bytes p) (g : Page last p k) where
-  body-again : pageBody (payloadOf p) ≡ take 510 p
-  unfolding pageBody
+module _ (last : Bool) (p : List ℕ) (k : ℕ) (l : length p ≡ pageSize) (b : Bytes p) (g : Page last p k) where
+  body-again : pageBody (payloadOf p) ≡ take checkPlace p
+  unfolding lengthIn pageBody
   body-again =
-      let n = wordAt p 0 in
-      let short : n ≤ 508 = page-short last p k g in
-      let lt = length-take-le 510 p (omega arith) in
-      let rest = drop (n + 2) (take 510 p) in
-      let lr : length rest ≡ 508 - n = length-drop (n + 2) (take 510 p) ∙ omega arith in
-      let z : replicate (508 - n) 0 ≡ rest = ap (λ (m : ℕ). replicate m 0) (sym lr) ∙ sym (zeros rest (g .filler)) in
-      let front : take 2 p ++ take n (drop 2 p) ≡ take (n + 2) (take 510 p) = sym (take-add 2 n p) ∙ ap (λ (m : ℕ). take m p) (add-comm 2 n) ∙ sym (take-take (n + 2) 510 p (omega arith)) in
-      ap (λ (m : ℕ). le16 m ++ (payloadOf p ++ replicate (508 - m) 0)) (length-payload p l short)
-      ∙ ap (λ (q : List ℕ). q ++ (payloadOf p ++ replicate (508 - n) 0)) (le16-word p 0 b (omega arith))
+      let n = lengthIn p in
+      let short : n ≤ payloadRoom = page-short last p k g in
+      let lt = length-take-le checkPlace p (omega arith) in
+      let rest = drop (n + 2) (take checkPlace p) in
+      let lr : length rest ≡ payloadRoom - n = length-drop (n + 2) (take checkPlace p) ∙ omega arith in
+      let z : replicate (payloadRoom - n) 0 ≡ rest = ap (λ (m : ℕ). replicate m 0) (sym lr) ∙ sym (zeros rest (g .filler)) in
+      let front : take 2 p ++ take n (drop 2 p) ≡ take (n + 2) (take checkPlace p) = sym (take-add 2 n p) ∙ ap (λ (m : ℕ). take m p) (add-comm 2 n) ∙ sym (take-take (n + 2) checkPlace p (omega arith)) in
+      ap (λ (m : ℕ). le16 m ++ (payloadOf p ++ replicate (payloadRoom - m) 0)) (length-payload p l short)
+      ∙ ap (λ (q : List ℕ). q ++ (payloadOf p ++ replicate (payloadRoom - n) 0)) (le16-word p 0 b (omega arith))
       ∙ ap (λ (q : List ℕ). take 2 p ++ (payloadOf p ++ q)) z
       ∙ sym (append-assoc (take 2 p) (take n (drop 2 p)) rest)
       ∙ ap (λ (q : List ℕ). q ++ rest) front
-      ∙ take-append-drop (n + 2) (take 510 p)
+      ∙ take-append-drop (n + 2) (take checkPlace p)
 
   page-again : pageOf k (payloadOf p) ≡ p
   unfolding pageOf
   page-again =
-      let c : checkOf k (take 510 p) ≡ wordAt p 510 =
-      sym (checkOf-append (take 510 p) (drop 510 p) k (omega (arith, length-take-le 510 p (omega arith)))) ∙ ap (checkOf k) (take-append-drop 510 p) ∙ sym (g .check) in
+      let c : checkOf k (take checkPlace p) ≡ checkIn p =
+      sym (checkOf-append (take checkPlace p) (drop checkPlace p) k (omega (arith, length-take-le checkPlace p (omega arith)))) ∙ ap (checkOf k) (take-append-drop checkPlace p) ∙ sym (g .check) in
       ap (λ (q : List ℕ). q ++ le16 (checkOf k q)) body-again
-      ∙ ap (λ (m : ℕ). take 510 p ++ le16 m) c
-      ∙ ap (λ (q : List ℕ). take 510 p ++ q) (le16-word p 510 b (omega arith) ∙ take-all 2 (drop 510 p) (omega (arith, length-drop 510 p)))
-      ∙ take-append-drop 510 p
+      ∙ ap (λ (m : ℕ). take checkPlace p ++ le16 m) c
+      ∙ ap (λ (q : List ℕ). take checkPlace p ++ q) (le16-word p checkPlace b (omega arith) ∙ take-all 2 (drop checkPlace p) (omega (arith, length-drop checkPlace p)))
+      ∙ take-append-drop checkPlace p
 
 -- ---- the pages of a file that was read
 
-pagesTo-append : (ys zs : List ℕ) (k : ℕ) → k * 508 ≤ length ys → pagesTo (ys ++ zs) k ≡ pagesTo ys k
+pagesTo-append : (ys zs : List ℕ) (k : ℕ) → k * payloadRoom ≤ length ys → pagesTo (ys ++ zs) k ≡ pagesTo ys k
 unfolding pagesTo
 pagesTo-append ys zs zero h = refl
 pagesTo-append ys zs (suc k) h =
     let e : pieceOf (ys ++ zs) k ≡ pieceOf ys k =
-    ap (take 508) (drop-append-le (k * 508) ys zs (omega arith)) ∙ take-append-le 508 (drop (k * 508) ys) zs (omega (arith, length-drop (k * 508) ys)) in
+    ap (take payloadRoom) (drop-append-le (k * payloadRoom) ys zs (omega arith)) ∙ take-append-le payloadRoom (drop (k * payloadRoom) ys) zs (omega (arith, length-drop (k * payloadRoom) ys)) in
     rw (pagesTo-append ys zs k (omega arith), e)
 
 record Split (g h : Got (List ℕ)) (xs : List ℕ) (n : ℕ) : Type 0 where
@@ -217,33 +217,33 @@ split (refused i j) h xs n e = absurd-got e
 -- what the first k pages of a file hold, if they are accepted: written again it gives those pages
 record Again (file : List ℕ) (P k : ℕ) (xs : List ℕ) (n : ℕ) : Type 0 where
   next : n ≡ k
-  least : k * 508 ≤ length xs + 507
-  most : length xs ≤ k * 508
-  full : k < P → length xs ≡ k * 508
+  least : k * payloadRoom ≤ length xs + (payloadRoom - 1)
+  most : length xs ≤ k * payloadRoom
+  full : k < P → length xs ≡ k * payloadRoom
   bytes : Bytes xs
-  pages : pagesTo xs k ≡ take (k * 512) file
+  pages : pagesTo xs k ≡ take (k * pageSize) file
 
-module _ (file : List ℕ) (P : ℕ) (b : Bytes file) (l : P * 512 ≤ length file) where
+module _ (file : List ℕ) (P : ℕ) (b : Bytes file) (l : P * pageSize ≤ length file) where
   more : (k : ℕ) (ys zs xs : List ℕ) (m n : ℕ) → suc k ≤ P → Again file P k ys m → Page (eqb (k + 1) P) (pageIn file k) k → zs ≡ payloadOf (pageIn file k) → xs ≡ ys ++ zs → n ≡ k + 1
       → Again file P (suc k) xs n
   unfolding pagesTo
   more k ys zs xs m n h i g ez ex en =
       let p = pageIn file k in
-      let bp = bytes-take 512 (drop (k * 512) file) (bytes-drop (k * 512) file b) in
-      let lp : length p ≡ 512 = length-pageIn file k (omega arith) in
-      let ly : length ys ≡ k * 508 = i .full h in
-      let lz : length zs ≡ wordAt p 0 = ap length ez ∙ length-payload p lp (page-short (eqb (k + 1) P) p k g) in
-      let s = length-some (eqb (k + 1) P) (wordAt p 0) (g .size) in
+      let bp = bytes-take pageSize (drop (k * pageSize) file) (bytes-drop (k * pageSize) file b) in
+      let lp : length p ≡ pageSize = length-pageIn file k (omega arith) in
+      let ly : length ys ≡ k * payloadRoom = i .full h in
+      let lz : length zs ≡ lengthIn p = ap length ez ∙ length-payload p lp (page-short (eqb (k + 1) P) p k g) in
+      let s = length-some (eqb (k + 1) P) (lengthIn p) (g .size) in
       let la = length-append ys zs in
-      let piece : pieceOf (ys ++ zs) k ≡ zs = ap (take 508) (drop-at ys zs (k * 508) ly) ∙ take-all 508 zs (omega arith) in
-      let e : suc k * 512 ≡ k * 512 + 512 = omega arith in
+      let piece : pieceOf (ys ++ zs) k ≡ zs = ap (take payloadRoom) (drop-at ys zs (k * payloadRoom) ly) ∙ take-all payloadRoom zs (omega arith) in
+      let e : suc k * pageSize ≡ k * pageSize + pageSize = omega arith in
       rw ex (record {
         next = en ∙ add-one k;
         least = omega arith;
         most = omega arith;
-        full = λ (q : suc k < P). omega (arith, length-not-last (eqb (k + 1) P) (wordAt p 0) (ne-eqb (k + 1) P (λ (z : k + 1 ≡ P). omega arith)) (g .size));
-        bytes = bytes-append ys zs (i .bytes) (rw ez (bytes-take (wordAt p 0) (drop 2 p) (bytes-drop 2 p bp)));
-        pages = rw (pagesTo-append ys zs k (omega arith), piece, ez, page-again (eqb (k + 1) P) p k lp bp g, i .pages, e) (sym (take-add (k * 512) 512 file));
+        full = λ (q : suc k < P). omega (arith, length-not-last (eqb (k + 1) P) (lengthIn p) (ne-eqb (k + 1) P (λ (z : k + 1 ≡ P). omega arith)) (g .size));
+        bytes = bytes-append ys zs (i .bytes) (rw ez (bytes-take (lengthIn p) (drop 2 p) (bytes-drop 2 p bp)));
+        pages = rw (pagesTo-append ys zs k (omega arith), piece, ez, page-again (eqb (k + 1) P) p k lp bp g, i .pages, e) (sym (take-add (k * pageSize) pageSize file));
       })
 
   again : (k : ℕ) (xs : List ℕ) (n : ℕ) → k ≤ P → payloadTo file P k ≡ got xs n → Again file P k xs n
@@ -264,7 +264,7 @@ module _ (file : List ℕ) (P : ℕ) (b : Bytes file) (l : P * 512 ≤ length fi
 -- what a file holds that is accepted
 pub record Unpacked (file xs : List ℕ) (n : ℕ) : Type 0 where
   pub least : 1 ≤ length xs
-  pub most : length xs ≤ 4064
+  pub most : length xs ≤ longest
   pub bytes : Bytes xs
   pub pages : n ≡ pagesFor (length xs)
   pub back : fileOf xs ≡ file
@@ -273,7 +273,7 @@ pub record Unpacked (file xs : List ℕ) (n : ℕ) : Type 0 where
 pub read-write : (file xs : List ℕ) (n : ℕ) → Bytes file → unpacked file ≡ got xs n → Unpacked file xs n
 unfolding fileOf
 read-write file xs n b e =
-    let P = length file / 512 in
+    let P = length file / pageSize in
     let ok = got-size file xs n e in
     let s = size-is (length file) ok in
     let a = again file P b (omega arith) P xs n (omega arith) (sym (whole file ok) ∙ e) in
@@ -283,5 +283,5 @@ read-write file xs n b e =
       most = omega (arith, a .most);
       bytes = a .bytes;
       pages = a .next ∙ sym eP;
-      back = rw eP (a .pages ∙ take-all (P * 512) file (omega arith));
+      back = rw eP (a .pages ∙ take-all (P * pageSize) file (omega arith));
     }

@@ -2,9 +2,9 @@
 use Prim.Native.Nat.{ℕ, _≤_}
 use mathlib.Core.List.{List}
 use lib.ListN.{length}
-use Rattle.paper.specs.Grammar.{Got, got, refused}
-use Rattle.paper.specs.declared.Reply.{Reply}
-use Rattle.paper.specs.declared.Reply.the-variants.{Done, Refused}
+use Rattle.definitions.specs.Grammar.{Got, got, refused}
+use Rattle.definitions.specs.declared.Reply.{Reply}
+use Rattle.definitions.specs.declared.Reply.the-variants.{Done, Refused}
 
 -- how many bytes were found, or the refusal
 unfoldable pub scanOf : Got (List ℕ) → Reply

@@ -5,12 +5,12 @@ use mathlib.Core.Bool.{Bool, true, false, _&&_}
 use mathlib.Core.List.{List}
 use lib.ListN.{length}
 use lib.Dec.{eqb}
-use Rattle.paper.specs.Pages.{wordAt, checkOf, pageIn, lengthOk, fillerOk, sizeOk}
+use Rattle.definitions.specs.Pages.{pageSize, lengthIn, checkIn, checkOf, pageIn, lengthOk, fillerOk, sizeOk}
 
 -- page k, the last or not, is as it should be
 pub record Page (last : Bool) (p : List ℕ) (k : ℕ) : Type 0 where
-  pub check : wordAt p 510 ≡ checkOf k p
-  pub size : lengthOk last (wordAt p 0) ≡ true
+  pub check : checkIn p ≡ checkOf k p
+  pub size : lengthOk last (lengthIn p) ≡ true
   pub filler : fillerOk p ≡ true
 
 -- the first k of so many pages are as they should be
@@ -20,10 +20,10 @@ Good file pages k = (j : ℕ) → j < k → Page (eqb (j + 1) pages) (pageIn fil
 -- a number and a place with which a file is refused
 pub data Refuses (file : List ℕ) : ℕ → ℕ → Type 0 where
   size : sizeOk (length file) ≡ false → Refuses file 1 0
-  check : {k : ℕ} → sizeOk (length file) ≡ true → k < length file / 512 → Good file (length file / 512) k
-      → (wordAt (pageIn file k) 510 ≡ checkOf k (pageIn file k) → ⊥)
+  check : {k : ℕ} → sizeOk (length file) ≡ true → k < length file / pageSize → Good file (length file / pageSize) k
+      → (checkIn (pageIn file k) ≡ checkOf k (pageIn file k) → ⊥)
       → Refuses file 2 k
-  form : {k : ℕ} → sizeOk (length file) ≡ true → k < length file / 512 → Good file (length file / 512) k
-      → wordAt (pageIn file k) 510 ≡ checkOf k (pageIn file k)
-      → (lengthOk (eqb (k + 1) (length file / 512)) (wordAt (pageIn file k) 0) && fillerOk (pageIn file k)) ≡ false
+  form : {k : ℕ} → sizeOk (length file) ≡ true → k < length file / pageSize → Good file (length file / pageSize) k
+      → checkIn (pageIn file k) ≡ checkOf k (pageIn file k)
+      → (lengthOk (eqb (k + 1) (length file / pageSize)) (lengthIn (pageIn file k)) && fillerOk (pageIn file k)) ≡ false
       → Refuses file 3 k

@@ -7,10 +7,10 @@ use mathlib.Core.Logic.{_↔_}
 use native.Mathlib.Omega.{arith}
 use lib.Dec.{eqb, leb}
 use borrow.Author.Tests.{eqb-true, eq-eqb, leb-true, le-leb}
-use Rattle.paper.specs.Rule.{Rule}
-use Rattle.paper.specs.Grammar.{Got, got, refused, ruleOf, longest}
-use Rattle.paper.specs.Plan.{planOf, same, carried, asPlan, planned}
-use Rattle.paper.proofs.Tests.{and-parts, and-both}
+use Rattle.definitions.specs.Rule.{Rule}
+use Rattle.definitions.specs.Grammar.{Got, got, refused, ruleOf, longest}
+use Rattle.definitions.specs.Plan.{planOf, same, carried, asPlan, planned}
+use Rattle.definitions.proofs.Tests.{and-parts, and-both}
 
 -- ---- two lists of bytes
 pub same-refl : (xs : List ℕ) → same xs xs ≡ true

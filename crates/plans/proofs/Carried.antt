@@ -1,15 +1,17 @@
 -- What a caller may take from an accepted plan, with nothing parsed again. Assumes nothing.
-use Prim.Native.Nat.{ℕ, suc, _+_, _*_, _≤_, _<_}
+use Prim.Native.Nat.{ℕ, suc, _+_, _-_, _*_, _≤_, _<_}
 use mathlib.Core.Path.{_≡_, refl, sym, ap, _∙_}
 use mathlib.Core.Bool.{cond}
 use mathlib.Core.List.{List, []}
 use native.Mathlib.Omega.{arith}
 use lib.ListN.{length, take, getD}
-use Rattle.paper.specs.Rule.{Rule, size, blockOf}
-use Rattle.paper.specs.Grammar.{Got, got, refused, ruleOf, blockAt}
-use Rattle.paper.specs.Columns.{flowOf, inputsOf, outputsOf, LC}
-use Rattle.paper.specs.Plan.{maskOf, placeOf, headSize, entryOf, carried, planned, planSize}
-use Rattle.paper.specs.Pages.{wordAt}
+use Rattle.definitions.specs.Rule.{Rule, size, blockOf}
+use Rattle.definitions.specs.Grammar.{Got, got, refused, ruleOf, targetsOf, blockAt}
+use Rattle.definitions.specs.Columns.{flowOf, J, inputsOf, outputsOf, LC}
+use Rattle.definitions.specs.Plan.{maskOf, bitOf, placeOf, headSize, entryOf, wordAt, bodiesAt, carried, planned, planSize}
+use Rattle.definitions.specs.Batch.{countTo}
+use Rattle.definitions.specs.Calls.{columns}
+use Rattle.definitions.proofs.Masks.{mask-count}
 use Rattle.columns.specs.Proper.{Proper}
 use Rattle.rules.specs.Accepted.{RuleIn}
 use Rattle.rules.proofs.Accepted.{rule-in}
@@ -19,7 +21,7 @@ use Rattle.plans.specs.declared.Taken.{Taken}
 use Rattle.plans.specs.declared.Taken.the-variants as taken
 use Rattle.plans.specs.Taken.{takenOf, Taking}
 use Rattle.plans.specs.Accepted.{treeOf, ruleIn, Accepted}
-use Rattle.plans.proofs.Fields.{word-le16, plan-length, plan-lc, plan-entry, plan-byte}
+use Rattle.plans.proofs.Fields.{word-le16, plan-length, plan-lc, plan-entry, plan-byte, plan-bodies}
 use Rattle.plans.proofs.Accepted.{Plan, is-plan}
 use Rattle.plans.proofs.Proper.{proper}
 
@@ -79,14 +81,25 @@ module _ (p : List ℕ) (a : Accepted p) where
   pub at-lc : wordAt p 4 ≡ maskOf (ruleIn p .variables) (LC (flowOf (ruleIn p)))
   at-lc = sym (ap (λ x. wordAt x 4) (whole .bytes)) ∙ plan-lc (ruleIn p) (carried p) long
 
+  -- the columns of a line are the ones in LC
+  pub columns-counted : (lc n : ℕ) → lc ≡ wordAt p 4 → n ≡ countTo (getD p 1 0) (bitOf lc) → n ≡ columns (ruleIn p)
+  columns-counted lc n el en = en ∙ rw (at-variables, el, at-lc) (mask-count (ruleIn p .variables) (LC (flowOf (ruleIn p))) (ruleIn p .variables) (omega arith))
+
+  -- the bodies follow the entries
+  pub at-bodies : bodiesAt p ≡ headSize (size (ruleIn p))
+  at-bodies = sym (ap bodiesAt (whole .bytes)) ∙ plan-bodies (ruleIn p) (carried p) long (carried-in .blocks-from)
+
   -- an entry
   module _ (b : ℕ) (h : b < size (ruleIn p)) where
     word : (i : ℕ) → i + 1 < 8 → wordAt p (6 + (8 * b + i)) ≡ wordAt (entryOf (ruleIn p) (carried p) b) i
     word i l = sym (ap (λ x. wordAt x (6 + (8 * b + i))) (whole .bytes)) ∙ plan-entry (ruleIn p) (carried p) long b i h l
 
-    pub at-offset : wordAt p (6 + (8 * b + 0)) ≡ placeOf (ruleIn p) (carried p) b + (2 + 8 * size (ruleIn p))
+    pub at-past : 4 ≤ placeOf (ruleIn p) (carried p) b
+    at-past = place-past (carried p) (ruleIn p) (a .next) carried-rule b (omega arith)
+
+    pub at-offset : wordAt p (6 + (8 * b + 0)) ≡ placeOf (ruleIn p) (carried p) b - 4 + bodiesAt p
     unfolding entryOf
-    at-offset = word 0 (omega arith) ∙ word-le16 _ [] ∙ omega (arith, place-past (carried p) (ruleIn p) (a .next) carried-rule b (omega arith))
+    at-offset = word 0 (omega arith) ∙ word-le16 _ [] ∙ omega (arith, at-bodies)
 
     pub at-inputs : wordAt p (6 + (8 * b + 2)) ≡ maskOf (ruleIn p .variables) (inputsOf (flowOf (ruleIn p)) b)
     unfolding entryOf
@@ -96,10 +109,10 @@ module _ (p : List ℕ) (a : Accepted p) where
     unfolding entryOf
     at-outputs = word 4 (omega arith) ∙ word-le16 _ []
 
-    pub at-joins : wordAt p (6 + (8 * b + 6)) ≡ cond (flowOf (ruleIn p) .J b) 1 0
+    pub at-joins : wordAt p (6 + (8 * b + 6)) ≡ cond (J (flowOf (ruleIn p)) b) 1 0
     unfolding entryOf
     at-joins = word 6 (omega arith) ∙ word-le16 _ []
 
     -- the block that stands at the place that the offset tells
-    pub at-place : blockAt (size (ruleIn p)) b (ruleIn p .variables) (carried p) (placeOf (ruleIn p) (carried p) b) ≡ got (blockOf (ruleIn p) b) (placeOf (ruleIn p) (carried p) (suc b))
+    pub at-place : blockAt (targetsOf (size (ruleIn p)) b) (ruleIn p .variables) (carried p) (placeOf (ruleIn p) (carried p) b) ≡ got (blockOf (ruleIn p) b) (placeOf (ruleIn p) (carried p) (suc b))
     at-place = block-stands (carried p) (ruleIn p) (a .next) carried-rule b h

@@ -5,15 +5,15 @@ use mathlib.Core.List.{List}
 use native.Mathlib.Omega.{arith}
 use lib.ListN.{length, take, getD}
 use lib.Seq.{getD-take}
-use Rattle.words.specs.Words.{over}
-use Rattle.paper.specs.Rule.{Rule}
-use Rattle.paper.specs.Grammar.{Got, got, refused, then, ruleOf, blocksIn}
-use Rattle.paper.specs.Plan.{planOf, planSize, endOf}
-use Rattle.paper.specs.Pages.{unpacked}
-use Rattle.paper.specs.Calls.{toRead, toCompile, bytesIn, Wrote}
-use Rattle.paper.specs.declared.Refusal.{Refusal}
-use Rattle.paper.specs.declared.Reply.{Reply}
-use Rattle.paper.specs.declared.Reply.the-variants.{Done, Refused}
+use Rattle.buffers.specs.Words.{over}
+use Rattle.definitions.specs.Rule.{Rule}
+use Rattle.definitions.specs.Grammar.{Got, got, refused, then, ruleOf, blocksIn}
+use Rattle.definitions.specs.Plan.{planOf, planSize, endOf}
+use Rattle.definitions.specs.Pages.{unpacked}
+use Rattle.definitions.specs.Calls.{toRead, toCompile, bytesIn, Wrote}
+use Rattle.definitions.specs.declared.Refusal.{Refusal}
+use Rattle.definitions.specs.declared.Reply.{Reply}
+use Rattle.definitions.specs.declared.Reply.the-variants.{Done, Refused}
 use Rattle.pages.specs.Answers.{scanOf}
 use Rattle.pages.proofs.Reading.{scan-got, scan-refused, absurd-got}
 use Rattle.rules.specs.Opened.{Opened}

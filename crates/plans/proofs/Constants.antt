@@ -4,13 +4,13 @@ use mathlib.Core.Path.{_≡_}
 use mathlib.Core.Logic.{⊎-elim}
 use mathlib.Core.List.{List, [], _∷_, List·Memᴰ, List·Memᴰ·cases-cons, List·Memᴰ·not-nil}
 use lib.ListN.{take, drop, List·getD-eq-default}
-use Rattle.paper.specs.Values.{Val}
-use Rattle.paper.specs.Rule.{Expr, Const, Var, Neg, Op, Case, Stmt, Set, Emit, Rule, size, blockOf}
-use Rattle.paper.specs.Grammar.{got, blocksIn, ruleOf}
-use Rattle.paper.specs.Limits.{ExprKeeps, StmtKeeps, Every, BlockKeeps}
-use Rattle.paper.specs.Plan.{headSize, carried, planned}
-use Rattle.paper.specs.Direct.{start, after}
-use Rattle.paper.proofs.Tests.{less-or}
+use Rattle.definitions.specs.Values.{Val}
+use Rattle.definitions.specs.Rule.{Expr, Const, Var, Neg, Op, Case, Stmt, Set, Emit, Rule, size, blockOf}
+use Rattle.definitions.specs.Grammar.{got, ruleOf}
+use Rattle.definitions.specs.Limits.{ExprKeeps, StmtKeeps, Every, BlockKeeps}
+use Rattle.definitions.specs.Plan.{bodiesAt, carried, planned}
+use Rattle.definitions.specs.Direct.{start, after}
+use Rattle.definitions.proofs.Tests.{less-or}
 use Rattle.pages.proofs.Trip.{Bytes, bytes-append, bytes-take, bytes-drop}
 use Rattle.rules.proofs.Spelling.{rule-exactly}
 use Rattle.rules.proofs.Spelt.{every-at}
@@ -50,5 +50,5 @@ module _ (s : List ℕ) (r : Rule) (n : ℕ) (bytes : Bytes s) (e : ruleOf s ≡
 -- every variable and every label of every row under an accepted plan
 pub plan-ranged : (plan : List ℕ) (r : Rule) (n : ℕ) → Bytes plan → planned plan ≡ got r n → (args : List Val) → AllInRange args → (q N : ℕ) → Ranged (after r q N (start r args))
 plan-ranged plan r n bytes e =
-    let body : ℕ = headSize (blocksIn plan) in
+    let body : ℕ = bodiesAt plan in
     rule-ranged (carried plan) r n (bytes-append (take 4 plan) (drop body plan) (bytes-take 4 plan bytes) (bytes-drop body plan bytes)) (is-plan plan r n .0 e .rule)

@@ -4,14 +4,13 @@ use mathlib.Core.Path.{_≡_, refl, sym, ap, _∙_}
 use mathlib.Core.List.{List, [], _++_, append-assoc, append-nil}
 use mathlib.Core.Logic.{⊎-elim}
 use native.Mathlib.Omega.{arith}
-use native.Mathlib.Nat.{le-of-suc-le-suc, eq-or-lt-of-le}
+use native.Mathlib.Nat.{le-of-suc-le-suc, eq-or-lt-of-le, zero-add}
 use lib.ListN.{length, take, drop, getD, length-append, length-drop, take-append-drop, List·getD-append}
 use lib.Seq.{take-at, drop-at, getD-append-add, getD-take, drop-append-le, length-take-le}
-use Rattle.paper.specs.Rule.{Rule, size}
-use Rattle.paper.specs.Grammar.{blocksIn}
-use Rattle.paper.specs.Columns.{flowOf, LC}
-use Rattle.paper.specs.Plan.{le16, maskOf, headSize, entryOf, entriesTo, planOf, planSize, carried}
-use Rattle.paper.specs.Pages.{wordAt}
+use Rattle.definitions.specs.Rule.{Rule, size}
+use Rattle.definitions.specs.Grammar.{blocksTo}
+use Rattle.definitions.specs.Columns.{flowOf, LC}
+use Rattle.definitions.specs.Plan.{le16, maskOf, headSize, entryOf, entriesTo, planOf, planSize, wordAt, bodiesAt, carried}
 
 -- a number's two bytes are the number
 pub word-le16 : (n : ℕ) (xs : List ℕ) → wordAt (le16 n ++ xs) 0 ≡ n
@@ -106,6 +105,11 @@ module _ (r : Rule) (s : List ℕ) where
   pub plan-byte : 4 ≤ length s → (i : ℕ) → i < 4 → getD (planOf r s) i 0 ≡ getD s i 0
   plan-byte h i l = sym (getD-take 4 (planOf r s) i 0 l) ∙ ap (λ (xs : List ℕ). getD xs i 0) (plan-head h) ∙ getD-take 4 s i 0 l
 
+  -- block 0 begins right after the header, so its offset is past the entries
+  pub plan-bodies : 4 ≤ length s → 1 ≤ size r → bodiesAt (planOf r s) ≡ headSize (size r)
+  unfolding entryOf blocksTo
+  plan-bodies h l = plan-entry h 0 0 l (omega arith) ∙ word-le16 _ [] ∙ zero-add (headSize (size r))
+
   -- a rule's plan carries the rule
-  pub plan-carries : 4 ≤ length s → blocksIn s ≡ size r → carried (planOf r s) ≡ s
-  plan-carries h e = rw (plan-byte h 3 (omega arith), e, plan-head h, plan-body h) (take-append-drop 4 s)
+  pub plan-carries : 4 ≤ length s → 1 ≤ size r → carried (planOf r s) ≡ s
+  plan-carries h l = rw (plan-bodies h l, plan-head h, plan-body h) (take-append-drop 4 s)

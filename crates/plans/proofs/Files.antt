@@ -5,8 +5,8 @@ use mathlib.Core.List.{List, [], _++_}
 use native.Mathlib.Omega.{arith}
 use lib.Dec.{eqb}
 use lib.ListN.{length, length-append}
-use Rattle.paper.specs.Grammar.{got, ruleOf, longest}
-use Rattle.paper.specs.Pages.{pageIn, pageAt, payloadTo, unpacked}
+use Rattle.definitions.specs.Grammar.{got, ruleOf, longest}
+use Rattle.definitions.specs.Pages.{pageSize, payloadRoom, pageIn, pageAt, payloadTo, unpacked}
 use Rattle.pages.specs.Answers.{scanOf}
 use Rattle.pages.proofs.Reading.{page-room, whole, size-is, got-size}
 use Rattle.rules.proofs.Places.{through}
@@ -17,8 +17,8 @@ pub rule-held : (file s : List ℕ) (n : ℕ) → unpacked file ≡ got s n → 
 unfolding ruleInFile
 rule-held file s n e = rw e
 
--- pages hold 508 bytes at most, and a file has 8 of them at most
-pages-short : (file : List ℕ) (P k : ℕ) (xs : List ℕ) (n : ℕ) → payloadTo file P k ≡ got xs n → length xs ≤ k * 508
+-- no page holds more than it has room for, and a file has few
+pages-short : (file : List ℕ) (P k : ℕ) (xs : List ℕ) (n : ℕ) → payloadTo file P k ≡ got xs n → length xs ≤ k * payloadRoom
 unfolding payloadTo scanOf
 pages-short file P zero xs n e = let none : xs ≡ [] = cc in rw none (omega arith)
 pages-short file P (suc k) xs n e =
@@ -32,4 +32,4 @@ pub unpacked-short : (file xs : List ℕ) (n : ℕ) → unpacked file ≡ got xs
 unpacked-short file xs n e =
     let ok = got-size file xs n e in
     let size = size-is (length file) ok in
-    omega (arith, pages-short file (length file / 512) (length file / 512) xs n (sym (whole file ok) ∙ e))
+    omega (arith, pages-short file (length file / pageSize) (length file / pageSize) xs n (sym (whole file ok) ∙ e))

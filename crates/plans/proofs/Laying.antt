@@ -7,11 +7,11 @@ use native.Mathlib.Omega.{arith}
 use native.Mathlib.Numerals.{add-one}
 use lib.ListN.{length, take, drop, getD, length-append, length-drop, take-append-drop}
 use lib.Seq.{take-all, length-take-le}
-use Rattle.words.specs.Words.{over}
-use Rattle.words.proofs.Laws.{over-next}
-use Rattle.paper.specs.Rule.{Rule, size}
-use Rattle.paper.specs.Columns.{among, flowOf, LC}
-use Rattle.paper.specs.Plan.{le16, maskOf, headSize, entryOf, entriesTo, planOf, planSize}
+use Rattle.buffers.specs.Words.{over}
+use Rattle.buffers.proofs.Laws.{over-next}
+use Rattle.definitions.specs.Rule.{Rule, size}
+use Rattle.definitions.specs.Columns.{among, flowOf, LC}
+use Rattle.definitions.specs.Plan.{le16, maskOf, headSize, entryOf, entriesTo, planOf, planSize}
 use Rattle.plans.specs.Laid.{Laid}
 use Rattle.plans.proofs.Fields.{entries-length}
 
@@ -26,7 +26,7 @@ module _ {r : Rule} {s : List ℕ} {n : ℕ} {places inputs outputs : List ℕ} 
   unfolding entryOf
   entry-is =
       let o : getD places b 0 + 2 + 8 * n ≡ getD places b 0 - 4 + (6 + 8 * size r) = omega (arith, l .blocks) in
-      rw (o, l .place b h, l .input b h, l .output b h, l .joins b h)
+      rw (o, l .place b h, l .columns .input b h, l .columns .output b h, l .columns .joins b h)
 
   pub one-entry : (d₀ d d′ : List ℕ) → 6 + 8 * n ≤ length d₀ → d ≡ over d₀ 6 (entriesTo r s b)
       → d′ ≡ over d (6 + 8 * b) (le16 (getD places b 0 + 2 + 8 * n) ++ (le16 (getD inputs b 0) ++ (le16 (getD outputs b 0) ++ le16 (cond (among j b) 1 0))))
@@ -55,5 +55,5 @@ whole-plan {r} {s} {n} l d {d₂ = d₂} head some h fits eh e₁ e₂ e₃ e₄
     let s₂ : over (over d 0 (a ++ b)) 6 c ≡ over d 0 ((a ++ b) ++ c) = over-next d 0 (a ++ b) 6 c (simp length-append (omega arith)) (simp length-append (omega arith)) in
     let s₃ : over (over d 0 ((a ++ b) ++ c)) (headSize n) (drop 4 s) ≡ over d 0 (((a ++ b) ++ c) ++ drop 4 s) =
     over-next d 0 ((a ++ b) ++ c) (headSize n) (drop 4 s) (simp length-append (omega arith)) (simp length-append (omega arith)) in
-    rw (e₄, e₃′, e₂, e₁, eh, rest, l .input 0 some, s₁, s₂, s₃)
+    rw (e₄, e₃′, e₂, e₁, eh, rest, l .columns .input 0 some, s₁, s₂, s₃)
     (ap (over d 0) (append-assoc (a ++ b) c (drop 4 s) ∙ append-assoc a b (c ++ drop 4 s)))

@@ -4,9 +4,9 @@ use native.Mathlib.Omega.{arith}
 use mathlib.Core.Path.{_≡_, sym, ap, _∙_}
 use mathlib.Core.Logic.{_↔_}
 use mathlib.Core.List.{List}
-use Rattle.paper.specs.Rule.{Rule}
-use Rattle.paper.specs.Grammar.{got}
-use Rattle.paper.specs.Plan.{carried, planned}
+use Rattle.definitions.specs.Rule.{Rule}
+use Rattle.definitions.specs.Grammar.{got}
+use Rattle.definitions.specs.Plan.{carried, planned}
 use Rattle.rules.proofs.Places.{rule-end}
 use Rattle.plans.specs.Accepted.{PlanOf}
 use Rattle.plans.proofs.Accepted.{is-plan}

@@ -7,14 +7,14 @@ use mathlib.Core.Logic.{_↔_}
 use mathlib.Core.List.{List}
 use native.Mathlib.Omega.{arith}
 use lib.ListN.{length, take}
-use Rattle.paper.specs.Rule.{Rule}
-use Rattle.paper.specs.Grammar.{got, ruleOf, longest}
-use Rattle.paper.specs.Columns.{flowOf, Inputs}
-use Rattle.paper.specs.Plan.{endOf, planOf, carried, planned}
-use Rattle.paper.specs.Pages.{pagesFor, unpacked}
-use Rattle.paper.specs.Calls.{toWrite, toCompile, bytesIn, Wrote}
-use Rattle.paper.specs.declared.Reply.{Reply}
-use Rattle.paper.specs.declared.Reply.the-variants.{Done}
+use Rattle.definitions.specs.Rule.{Rule}
+use Rattle.definitions.specs.Grammar.{got, ruleOf, longest}
+use Rattle.definitions.specs.Columns.{flowOf, Inputs}
+use Rattle.definitions.specs.Plan.{endOf, planOf, carried, planned}
+use Rattle.definitions.specs.Pages.{pagesFor, unpacked}
+use Rattle.definitions.specs.Calls.{toWrite, toCompile, bytesIn, Wrote}
+use Rattle.definitions.specs.declared.Reply.{Reply}
+use Rattle.definitions.specs.declared.Reply.the-variants.{Done}
 use Rattle.pages.proofs.Trip.{Bytes}
 use Rattle.rules.specs.Replies.{OfFile}
 use Rattle.rules.specs.Spelling.{Accepts}
@@ -54,7 +54,7 @@ exactly-columns plan r n e inputs =
 -- a rule's plan is accepted, and as that rule
 pub compiled-accepted : (s : List ℕ) (r : Rule) (n : ℕ) → ruleOf s ≡ got r n → length s ≤ longest → planned (planOf r s) ≡ got r n
 compiled-accepted s r n e h =
-    let c : carried (planOf r s) ≡ s = plan-carries r s (rule-header s r n e) (sym (rule-in s r n e .blocks-are)) in
+    let c : carried (planOf r s) ≡ s = plan-carries r s (rule-header s r n e) (rule-in s r n e .blocks-from) in
     is-plan (planOf r s) r n .1 (record { rule = ap ruleOf c ∙ e; short = omega (arith, rule-end s r n e); bytes = ap (planOf r) c })
 
 -- what `compile` writes is a plan for the file's own rule

@@ -5,14 +5,14 @@ use mathlib.Core.Bool.{Bool}
 use mathlib.Core.List.{List}
 use native.Mathlib.Omega.{arith}
 use lib.ListN.{length, getD}
-use Rattle.paper.specs.Rule.{Rule, size}
-use Rattle.paper.specs.Grammar.{got, ruleOf, variablesIn, blocksIn}
-use Rattle.paper.specs.Columns.{Flow, flowOf, inputsOf, outputsOf}
-use Rattle.paper.specs.Plan.{maskOf, placeOf, planSize}
+use Rattle.definitions.specs.Rule.{Rule, size}
+use Rattle.definitions.specs.Grammar.{got, targetsOf, ruleOf, variablesIn, blocksIn}
+use Rattle.definitions.specs.Columns.{Flow, flowOf}
+use Rattle.definitions.specs.Plan.{placeOf, planSize}
 use Rattle.rules.proofs.Sound.{sound-got}
 use Rattle.rules.proofs.Accepted.{block-sound, rule-in}
 use Rattle.rules.proofs.Places.{rule-header, block-stands}
-use Rattle.closure.specs.Tables.{Tables}
+use Rattle.closure.specs.Tables.{Tables, Columned}
 use Rattle.flows.specs.Flow.{Ruled, Told}
 use Rattle.flows.proofs.Flow.{place-past, place-within}
 use Rattle.plans.specs.Laid.{Laid, Room}
@@ -23,7 +23,7 @@ rule-longer s r m e =
     let n = size r in
     let some = rule-in s r m e .blocks-from in
     let there = rule-header s r m e in
-    let b = sound-got _ (placeOf r s 0) (length s) _ (block-sound n 0 (r .variables) s (length s) (placeOf r s 0)) _ _ (block-stands s r m e 0 some) in
+    let b = sound-got _ (placeOf r s 0) (length s) _ (block-sound (targetsOf n 0) (r .variables) s (length s) (placeOf r s 0)) _ _ (block-stands s r m e 0 some) in
     omega (arith, b .0, b .1, place-past s r m e 0 (omega arith))
 
 module _ (s : List ℕ) (w : Ruled s) where
@@ -41,7 +41,7 @@ module _ (s : List ℕ) (w : Ruled s) where
   ruled-plan = omega (arith, ruled-blocks .1, w .short)
 
   -- where the blocks begin lies in the rule
-  pub ruled-room : (n : ℕ) (out places : List ℕ) {fv bv named j : List Bool} → n ≡ blocksIn s → ((r : Rule) (m : ℕ) → ruleOf s ≡ got r m → Told r s places fv bv named j)
+  pub ruled-room : (n : ℕ) (out places : List ℕ) {fv bv gotos jumps : List Bool} → n ≡ blocksIn s → ((r : Rule) (m : ℕ) → ruleOf s ≡ got r m → Told r s places fv bv gotos jumps)
       → planSize (blocksIn s) (length s) ≤ length out → Room n s out places
   ruled-room n out places en told fits =
       let r = w .rule in
@@ -51,35 +51,21 @@ module _ (s : List ℕ) (w : Ruled s) where
         some = omega (arith, i .blocks-are, i .blocks-from);
         few = omega (arith, i .blocks-are, i .blocks-to);
         header = ruled-long;
-        placed = λ b h.
+        inside = λ b h.
             let k : b ≤ size r = omega (arith, i .blocks-are) in
             (omega (arith, t .places b k, place-past s r (w .end) (w .is) b k), omega (arith, t .places b k, place-within s r (w .end) (w .is) b k, w .short));
         fits = rw en fits;
       }
 
+of-size : {g : Flow} {n v x y : ℕ} {fv bv gotos jumps j : List Bool} {inputs outputs : List ℕ} → n ≡ x → v ≡ y
+    → Tables g x y fv bv gotos jumps → (Tables g n v fv bv gotos jumps → Columned g n v inputs outputs j) → Columned g n y inputs outputs j
+of-size p q t c = rw q at (c (rw (← p, ← q) at t))
+
 -- what is worked out is what the plan lays down
 pub laid : (s : List ℕ) (r : Rule) (m : ℕ) → ruleOf s ≡ got r m → {n v : ℕ} → n ≡ blocksIn s → v ≡ variablesIn s
-    → {places inputs outputs : List ℕ} {fv bv named j : List Bool} → Told r s places fv bv named j
-    → ((g : Flow) → Tables g n v fv bv named j → (b : ℕ) → b < n → (getD inputs b 0 ≡ maskOf v (inputsOf g b)) × (getD outputs b 0 ≡ maskOf v (outputsOf g b)))
-    → Laid r s n places inputs outputs j
-laid s r m e {n} {v} en ev {inputs} {outputs} {fv} {bv} {named} {j} t masks =
+    → {places inputs outputs : List ℕ} {fv bv gotos jumps j : List Bool} → Told r s places fv bv gotos jumps
+    → ((g : Flow) → Tables g n v fv bv gotos jumps → Columned g n v inputs outputs j) → Laid r s n places inputs outputs j
+laid s r m e {n} {v} en ev t columned =
     let i = rule-in s r m e in
-    let en′ : size r ≡ n = i .blocks-are ∙ sym en in
-    let ev′ : r .variables ≡ v = i .variables-are ∙ sym ev in
-    let tables : Tables (flowOf r) n v fv bv named j = tabled en′ ev′ (t .tables) in
-    record {
-      blocks = en′;
-      place = λ b h. t .places b (omega arith);
-      input = λ b h. masks (flowOf r) tables b h .0 ∙ ap (λ k. maskOf k (inputsOf (flowOf r) b)) (sym ev′);
-      output = λ b h. masks (flowOf r) tables b h .1 ∙ ap (λ k. maskOf k (outputsOf (flowOf r) b)) (sym ev′);
-      joins = λ b h. t .tables .J b (omega arith);
-    }
-  where
-    tabled : {n v : ℕ} → size r ≡ n → r .variables ≡ v → Tables (flowOf r) (size r) (r .variables) fv bv named j → Tables (flowOf r) n v fv bv named j
-    tabled p q x = record {
-      blocks = p;
-      FV = λ b k h l. x .FV b k (omega arith) (omega arith);
-      BV = λ b k h l. x .BV b k (omega arith) (omega arith);
-      names = λ b u h l. x .names b u (omega arith) (omega arith);
-      J = λ b h. x .J b (omega arith);
-    }
+    let en′ : n ≡ size r = en ∙ sym (i .blocks-are) in
+    record { blocks = sym en′; place = λ b h. t .places b (omega arith); columns = of-size en′ (ev ∙ sym (i .variables-are)) (t .tables) (columned (flowOf r)) }

@@ -4,42 +4,38 @@ use mathlib.Core.Path.{_≡_, refl, sym, ap, _∙_}
 use mathlib.Core.Bool.{Bool, true, false}
 use mathlib.Core.List.{List, _++_}
 use native.Mathlib.Omega.{arith}
-use lib.ListN.{length, take, drop, length-append, length-take, length-drop, drop-of-length-le, List·getD-append}
-use lib.Seq.{take-at, take-all, length-take-le, getD-take}
-use Rattle.words.specs.Words.{over}
-use Rattle.words.proofs.Laws.{over-start, over-next}
-use Rattle.paper.specs.Rule.{Rule, size}
-use Rattle.paper.specs.Grammar.{Got, got, refused, readOf, ruleOf, blocksIn, longest}
-use Rattle.paper.specs.Plan.{planOf, planSize, headSize, same, carried, planned}
-use Rattle.paper.specs.declared.Refusal.{Refusal}
-use Rattle.paper.specs.declared.Read.the-variants as read
-use Rattle.paper.proofs.Tests.{clash}
+use lib.ListN.{length, take, drop, length-append, length-take, length-drop, drop-of-length-le}
+use lib.Seq.{take-at, take-all, length-take-le}
+use Rattle.buffers.specs.Words.{over}
+use Rattle.buffers.proofs.Laws.{over-start, over-next}
+use Rattle.definitions.specs.Rule.{Rule, size}
+use Rattle.definitions.specs.Grammar.{Got, got, refused, readOf, ruleOf, blocksIn, longest}
+use Rattle.definitions.specs.Plan.{planOf, planSize, same, bodiesAt, carried, planned}
+use Rattle.definitions.specs.declared.Refusal.{Refusal}
+use Rattle.definitions.specs.declared.Read.the-variants as read
+use Rattle.definitions.proofs.Tests.{clash}
 use Rattle.pages.proofs.Reading.{absurd-got}
 use Rattle.rules.proofs.Accepted.{rule-in}
 use Rattle.rules.proofs.FileLaws.{read-got, read-refused}
 use Rattle.flows.specs.Flow.{Ruled}
 use Rattle.plans.specs.declared.Taken.{Taken}
 use Rattle.plans.specs.declared.Taken.the-variants as taken
-use Rattle.plans.specs.Taken.{takenOf, Carrying, Taking}
+use Rattle.plans.specs.Taken.{takenOf, Extracted, Taking}
 use Rattle.plans.proofs.Fields.{plan-length}
 use Rattle.plans.proofs.Accepted.{Plan, is-plan, same-refl, same-is}
 use Rattle.rules.proofs.Places.{rule-end, rule-header}
 use Rattle.plans.proofs.Ruling.{rule-longer}
 
 -- a plan that was compiled into a longer buffer, compared at its own size
-pub compared : (s : List ℕ) (r : Rule) (m : ℕ) → ruleOf s ≡ got r m → (p : List ℕ) → planSize (blocksIn s) (length s) ≡ length p
-    → (old new : List ℕ) → new ≡ over old 0 (planOf r s) → {b : Bool} → b ≡ same (take (length p) new) p → b ≡ same (planOf r s) p
-compared s r m e p fills old new w q =
-    let long : length (planOf r s) ≡ length p = plan-length r s (rule-header s r m e) ∙ rw (rule-in s r m e .blocks-are) fills in
-    let part : take (length p) new ≡ planOf r s = rw (w, over-start old (planOf r s)) (take-at (planOf r s) _ (length p) long) in
+pub compared : (s : List ℕ) (r : Rule) (m : ℕ) → ruleOf s ≡ got r m → (p : List ℕ) (size : ℕ) → size ≡ planSize (blocksIn s) (length s)
+    → (old new : List ℕ) → new ≡ over old 0 (planOf r s) → {b : Bool} → b ≡ same (take size new) p → b ≡ same (planOf r s) p
+compared s r m e p size es old new w q =
+    let long : length (planOf r s) ≡ size = plan-length r s (rule-header s r m e) ∙ rw (rule-in s r m e .blocks-are) (sym es) in
+    let part : take size new ≡ planOf r s = rw (w, over-start old (planOf r s)) (take-at (planOf r s) _ size long) in
     q ∙ ap (λ l. same l p) part
 
 same-refl′ : {x y : List ℕ} → x ≡ y → same x y ≡ true
 same-refl′ {y} e = rw e (same-refl y)
-
--- what is carried has the plan's own header
-carried-blocks : (p : List ℕ) → 4 ≤ length p → blocksIn (carried p) ≡ blocksIn p
-carried-blocks p h = List·getD-append (take 4 p) _ 0 3 (omega (arith, length-take-le 4 p h)) ∙ getD-take 4 p 3 0 (omega arith)
 
 -- ---- bytes that are no plan
 module _ (p : List ℕ) where
@@ -51,11 +47,10 @@ module _ (p : List ℕ) where
       go (got r n) e = absurd (h r n (is-plan p r n .0 e))
       go (refused k at) e = refl
 
-  pub none : takenOf (planned p) ≡ taken.NotPlan → (buffer : List ℕ) → Carrying p taken.NotPlan buffer
+  pub none : takenOf (planned p) ≡ taken.NotPlan → (buffer : List ℕ) → Extracted p taken.NotPlan buffer
   none e buffer = record {
     not = λ _. e;
     short = λ n d. not-rule n d;
-    fills = λ n d. not-rule n d;
     size = λ n d. not-rule n d;
     bytes = λ n d. not-rule n d;
   }
@@ -63,41 +58,45 @@ module _ (p : List ℕ) where
       not-rule : {C : Type 0} (n : ℕ) → taken.NotPlan ≡ taken.Rule n → C
       not-rule n d = let z : _≡_ {A = ℕ} 0 1 = cc in absurd (omega arith)
 
-  -- where the entries are cut off, what is carried is at most a header
-  pub carry-cut : length p < headSize (blocksIn p) → takenOf (planned p) ≡ taken.NotPlan
-  carry-cut h = not-plan (λ r n a. let l = rule-longer (carried p) r n (a .rule) in omega (arith, short))
+  -- a plan has a block's entry and more
+  pub cut-entry : length p < 8 → takenOf (planned p) ≡ taken.NotPlan
+  cut-entry h = not-plan (λ r n a.
+      let l = rule-longer (carried p) r n (a .rule) in
+      omega (arith, ap length (a .bytes), plan-length r (carried p) (omega arith), rule-in (carried p) r n (a .rule) .blocks-from))
+
+  -- where there are no bodies, what is carried is at most a header
+  pub cut-bodies : length p < bodiesAt p → takenOf (planned p) ≡ taken.NotPlan
+  cut-bodies h = not-plan (λ r n a. let l = rule-longer (carried p) r n (a .rule) in omega (arith, short))
     where
       short : length (carried p) ≤ 4
-      short = rw (drop-of-length-le p {i = headSize (blocksIn p)} (omega arith)) (simp (length-append, length-take) (omega arith))
+      short = rw (drop-of-length-le p {i = bodiesAt p} (omega arith)) (simp (length-append, length-take) (omega arith))
 
-  module _ (h : 4 ≤ length p) (fits : headSize (blocksIn p) ≤ length p) where
-    pub carried-length : length (carried p) ≡ length p - headSize (blocksIn p) + 4
-    carried-length = simp (length-append, length-take-le 4 p h, length-drop) (omega arith)
+  module _ (h : 4 ≤ length p) (at : ℕ) (e : at ≡ bodiesAt p) where
+    carried-length : length (carried p) ≡ length p - at + 4
+    carried-length = rw e (simp (length-append, length-take-le 4 p h, length-drop) (omega arith))
 
-    pub carry-long : longest < length p - headSize (blocksIn p) + 4 → takenOf (planned p) ≡ taken.NotPlan
-    carry-long l = not-plan (λ r n a. omega (arith, a .short, rule-end (carried p) r n (a .rule), carried-length))
+    pub too-long : longest - 4 < length p - at → takenOf (planned p) ≡ taken.NotPlan
+    too-long l = not-plan (λ r n a. omega (arith, a .short, rule-end (carried p) r n (a .rule), carried-length))
 
-    pub carry-all : (head : ℕ) → head ≡ headSize (blocksIn p) → length p - head + 4 ≤ longest → (old : List ℕ) {d₁ d₂ : List ℕ} → longest ≤ length old
-        → d₁ ≡ over old 0 (take 4 p) → d₂ ≡ over d₁ 4 (take (length p - head) (drop head p)) → Carrying p (taken.Rule (length p - head + 4)) d₂
-    carry-all head e short old {d₂ = d₂} room e₁ e₂ =
+    pub all-there : length p - at + 4 ≤ longest → (old : List ℕ) {d₁ d₂ : List ℕ} → longest ≤ length old
+        → d₁ ≡ over old 0 (take 4 p) → d₂ ≡ over d₁ 4 (take (length p - at) (drop at p)) → Extracted p (taken.Rule (length p - at + 4)) d₂
+    all-there short old {d₂ = d₂} room e₁ e₂ =
         let four : length (take 4 p) ≡ 4 = length-take-le 4 p h in
-        let rest : take (length p - head) (drop head p) ≡ drop (headSize (blocksIn p)) p = rw e (take-all (length p - headSize (blocksIn p)) (drop (headSize (blocksIn p)) p) (omega (arith, length-drop (headSize (blocksIn p)) p))) in
+        let rest : take (length p - at) (drop at p) ≡ drop (bodiesAt p) p = rw e (take-all (length p - bodiesAt p) (drop (bodiesAt p) p) (omega (arith, length-drop (bodiesAt p) p))) in
         let all : d₂ ≡ carried p ++ drop (length (carried p)) old =
-        rw (e₂, rest, e₁) (over-next old 0 (take 4 p) 4 (drop (headSize (blocksIn p)) p) (omega arith) (omega arith) ∙ over-start old (carried p)) in
-        let long : length p - head + 4 ≡ length (carried p) = rw e (sym carried-length) in
+        rw (e₂, rest, e₁) (over-next old 0 (take 4 p) 4 (drop (bodiesAt p) p) (omega arith) (omega arith) ∙ over-start old (carried p)) in
         record {
           not = λ d. let z : _≡_ {A = ℕ} 0 1 = cc in absurd (omega arith);
-          short = λ n d. let q : length p - head + 4 ≡ n = cc in omega arith;
-          fills = λ n d. let q : length p - head + 4 ≡ n = cc in omega arith;
-          size = λ n d. let q : length p - head + 4 ≡ n = cc in sym q ∙ long;
-          bytes = λ n d. let q : length p - head + 4 ≡ n = cc in rw (all) (take-at (carried p) _ n (sym long ∙ q));
+          short = λ n d. let q : length p - at + 4 ≡ n = cc in omega arith;
+          size = λ n d. let q : length p - at + 4 ≡ n = cc in sym q ∙ sym carried-length;
+          bytes = λ n d. let q : length p - at + 4 ≡ n = cc in rw (all) (take-at (carried p) _ n (carried-length ∙ q));
         }
 
 -- ---- what was carried, read
 nothing : {p : List ℕ} {buffer : List ℕ} → takenOf (planned p) ≡ taken.NotPlan → Taking p taken.NotPlan buffer
 nothing e = record { answer = sym e; bytes = λ n f. let z : _≡_ {A = ℕ} 0 1 = cc in absurd (omega arith) }
 
-module _ {p : List ℕ} {t : Taken} {buffer : List ℕ} (c : Carrying p t buffer) where
+module _ {p : List ℕ} {t : Taken} {buffer : List ℕ} (c : Extracted p t buffer) where
   pub taking-none : t ≡ taken.NotPlan → Taking p taken.NotPlan buffer
   taking-none e = nothing (c .not e)
 
@@ -116,13 +115,6 @@ module _ {p : List ℕ} {t : Taken} {buffer : List ℕ} (c : Carrying p t buffer
 
       pub taken-ruled : Ruled (take n buffer)
       taken-ruled = record { rule = is .0; end = m; is = is .1; short = omega (arith, taken-length, c .short n carries) }
-
-      pub taken-fills : planSize (blocksIn (take n buffer)) (length (take n buffer)) ≡ length p
-      taken-fills =
-          let f = c .fills n carries in
-          let l = rule-header (take n buffer) (is .0) m (is .1) in
-          let k = taken-length in
-          rw (taken-length, c .bytes n carries, carried-blocks p (omega arith)) (sym f)
 
       module _ {b : Bool} (compiles : (r : Rule) (k : ℕ) → ruleOf (take n buffer) ≡ got r k → b ≡ same (planOf r (take n buffer)) p) where
         pub taking-all : b ≡ true → Taking p (taken.Rule n) buffer

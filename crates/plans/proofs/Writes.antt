@@ -6,10 +6,10 @@ use mathlib.Core.List.{List, _++_}
 use native.Mathlib.Omega.{arith}
 use lib.ListN.{length, getD}
 use lib.Seq.{ext-getD}
-use Rattle.words.specs.Words.{over}
-use Rattle.words.proofs.Laws.{over-next}
-use Rattle.paper.specs.Plan.{le16, same}
-use Rattle.paper.proofs.Tests.{not-so}
+use Rattle.buffers.specs.Words.{over}
+use Rattle.buffers.proofs.Laws.{over-next}
+use Rattle.definitions.specs.Plan.{le16, same}
+use Rattle.definitions.proofs.Tests.{not-so}
 use Rattle.plans.proofs.Accepted.{same-refl, same-is}
 
 -- four numbers, one right after the other

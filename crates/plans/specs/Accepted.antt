@@ -3,9 +3,9 @@ use Prim.Native.Nat.{ℕ, _≤_}
 use mathlib.Core.Path.{_≡_}
 use mathlib.Core.List.{List, []}
 use lib.ListN.{length}
-use Rattle.paper.specs.Rule.{Rule}
-use Rattle.paper.specs.Grammar.{Got, got, refused, ruleOf, longest}
-use Rattle.paper.specs.Plan.{planOf, planned}
+use Rattle.definitions.specs.Rule.{Rule}
+use Rattle.definitions.specs.Grammar.{Got, got, refused, ruleOf, longest}
+use Rattle.definitions.specs.Plan.{planOf, planned}
 
 -- the rule that was read; nothing is said of a refusal's
 unfoldable pub treeOf : Got Rule → Rule

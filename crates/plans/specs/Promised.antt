@@ -4,11 +4,11 @@ use mathlib.Core.Path.{_≡_}
 use mathlib.Core.Bool.{Bool, true, false, cond}
 use mathlib.Core.List.{List}
 use lib.ListN.{drop}
-use Rattle.paper.specs.Rule.{Rule, size}
-use Rattle.paper.specs.Grammar.{Got, got, then, ruleOf}
-use Rattle.paper.specs.Columns.{flowOf, outputs, Inputs}
-use Rattle.paper.specs.Plan.{bitOf, placeOf, headSize, carried, planned}
-use Rattle.paper.specs.Pages.{wordAt, unpacked}
+use Rattle.definitions.specs.Rule.{Rule, size}
+use Rattle.definitions.specs.Grammar.{Got, got, then, ruleOf}
+use Rattle.definitions.specs.Columns.{flowOf, J, outputs, Inputs}
+use Rattle.definitions.specs.Plan.{bitOf, placeOf, headSize, carried, planned}
+use Rattle.definitions.specs.Pages.{wordAt, unpacked}
 
 -- a file's own rule: what its pages hold, read as a rule
 unfoldable pub ruleInFile : List ℕ → Got Rule
@@ -40,12 +40,12 @@ pub record Exactly (v mask : ℕ) (set : ℕ → Bool) : Type 0 where
 -- the numbers of a plan are those of the rule r with these inputs: LC is what any block in J takes, and from a block's offset on the plan's bytes are the
 -- rule's from that block on
 pub record Carries (plan : List ℕ) (r : Rule) (inputs : ℕ → ℕ → Bool) : Type 0 where
-  pub lc : (b : ℕ) → b < size r → flowOf r .J b ≡ true → Exactly (r .variables) (lcMask plan) (inputs b)
+  pub lc : (b : ℕ) → b < size r → J (flowOf r) b ≡ true → Exactly (r .variables) (lcMask plan) (inputs b)
   pub offset : (b : ℕ) → b < size r → offsetIn plan b ≡ placeOf r (carried plan) b - 4 + headSize (size r)
   pub body : (b : ℕ) → b < size r → drop (offsetIn plan b) plan ≡ drop (placeOf r (carried plan) b) (carried plan)
   pub input : (b : ℕ) → b < size r → Exactly (r .variables) (inputMask plan b) (inputs b)
   pub output : (b : ℕ) → b < size r → Exactly (r .variables) (outputMask plan b) (outputs (flowOf r) inputs b)
-  pub joins : (b : ℕ) → b < size r → jNumber plan b ≡ cond (flowOf r .J b) 1 0
+  pub joins : (b : ℕ) → b < size r → jNumber plan b ≡ cond (J (flowOf r) b) 1 0
 
 -- ---- a plan and the rule that was read
 

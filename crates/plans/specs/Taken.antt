@@ -3,9 +3,9 @@ use Prim.Native.Nat.{ℕ, _≤_}
 use mathlib.Core.Path.{_≡_}
 use mathlib.Core.List.{List}
 use lib.ListN.{length, take}
-use Rattle.paper.specs.Rule.{Rule}
-use Rattle.paper.specs.Grammar.{Got, got, refused, blocksIn, longest}
-use Rattle.paper.specs.Plan.{planned, carried, planSize}
+use Rattle.definitions.specs.Rule.{Rule}
+use Rattle.definitions.specs.Grammar.{Got, got, refused, longest}
+use Rattle.definitions.specs.Plan.{planned, carried}
 use Rattle.plans.specs.declared.Taken.the-variants as taken
 use Rattle.plans.specs.declared.Taken.{Taken}
 
@@ -19,10 +19,9 @@ pub record Taking (plan : List ℕ) (t : Taken) (buffer : List ℕ) : Type 0 whe
   pub answer : t ≡ takenOf (planned plan)
   pub bytes : (n : ℕ) → t ≡ taken.Rule n → take n buffer ≡ carried plan
 
--- the same before the rule is read: what a plan carries has a rule's length and fills the rest of the plan
-pub record Carrying (plan : List ℕ) (t : Taken) (buffer : List ℕ) : Type 0 where
+-- the same before the rule is read: what a plan carries has a rule's length
+pub record Extracted (plan : List ℕ) (t : Taken) (buffer : List ℕ) : Type 0 where
   pub not : t ≡ taken.NotPlan → takenOf (planned plan) ≡ taken.NotPlan
   pub short : (n : ℕ) → t ≡ taken.Rule n → n ≤ longest
-  pub fills : (n : ℕ) → t ≡ taken.Rule n → length plan ≡ planSize (blocksIn plan) n
   pub size : (n : ℕ) → t ≡ taken.Rule n → n ≡ length (carried plan)
   pub bytes : (n : ℕ) → t ≡ taken.Rule n → take n buffer ≡ carried plan

@@ -1,13 +1,17 @@
 // The plan's bytes, written and compared.
+use closure::Blocks;
+use definitions::BLOCKS;
+use flows::Places;
 ghost use mathlib.Core.Path.{_≡_};
 ghost use mathlib.Core.List.{List, _++_};
 ghost use mathlib.Core.Bool.{cond};
 ghost use Prim.Native.Nat.{ℕ, _+_, _*_, _≤_, _<_};
 ghost use lib.ListN.{length, getD};
-ghost use Rattle.paper.specs.Plan.{le16, same, headSize, entriesTo, planOf};
-ghost use Rattle.paper.specs.Rule.{Rule};
-ghost use Rattle.words.specs.Words.{over};
-ghost use Rattle.plans.specs.Laid.{Laid, Placed, Room};
+ghost use Rattle.definitions.specs.Plan.{le16, same, headSize, planSize, bodiesAt, entriesTo, planOf};
+ghost use Rattle.definitions.specs.Grammar.{mostBlocks, longest};
+ghost use Rattle.definitions.specs.Rule.{Rule};
+ghost use Rattle.buffers.specs.Words.{over};
+ghost use Rattle.plans.specs.Laid.{Laid, Inside, Room};
 
 // Whether the bytes are the same, all of them.
 pub fn equal(x: &[u8], y: &[u8]) -> bool
@@ -38,22 +42,22 @@ pub fn put_entry(out: &mut [u8], at: usize, offset: u16, ins: u16, outs: u16, in
     requires { ⌜ at + 8 ≤ length (now out) ⌝ }
     ensures { λ _. ⌜ now (out .exit) ≡ over (now (out .entry)) at (le16 offset ++ (le16 ins ++ (le16 outs ++ le16 (cond in_j 1 0)))) ⌝ }
 {
-    words::put16_at(out, at, offset);
-    words::put16_at(out, at + 2, ins);
-    words::put16_at(out, at + 4, outs);
-    words::put16_at(out, at + 6, one_if(in_j));
+    buffers::put16_at(out, at, offset);
+    buffers::put16_at(out, at + 2, ins);
+    buffers::put16_at(out, at + 4, outs);
+    buffers::put16_at(out, at + 6, one_if(in_j));
 }
 
 // The entries of n blocks, one after the other from byte 6 on.
 pub fn put_entries(
     out: &mut [u8],
     n: usize,
-    places: &[usize; 65],
-    inputs: &[u16; 64],
-    outputs: &[u16; 64],
-    j: &[bool; 64],
+    places: &Places,
+    inputs: &[u16; BLOCKS],
+    outputs: &[u16; BLOCKS],
+    j: &Blocks,
 )
-    requires { ⌜ (n ≤ 64) × ((6 + 8 * n ≤ length (now out)) × Placed n (now places)) ⌝ }
+    requires { ⌜ (n ≤ mostBlocks) × ((6 + 8 * n ≤ length (now out)) × Inside n (now places)) ⌝ }
     ensures { λ _. ⌜ ((r : Rule) (s : List ℕ) → Laid r s n (now (places .entry)) (now (inputs .entry)) (now (outputs .entry)) (now (j .entry))
         → now (out .exit) ≡ over (now (out .entry)) 6 (entriesTo r s n)) ⌝ }
 {
@@ -82,23 +86,39 @@ pub fn head_size(n: usize) -> usize
     6 + 8 * n
 }
 
+// The size of the plan of a rule of so many blocks and bytes.
+pub fn plan_size(n: usize, len: usize) -> usize
+    requires { ⌜ (n ≤ 255) × (len ≤ longest) ⌝ }
+    ensures { λ r. ⌜ r ≡ planSize n len ⌝ }
+{
+    head_size(n) + len - 4
+}
+
+// Where a plan's bodies begin: at the offset of block 0.
+pub fn bodies_at(plan: &[u8]) -> usize
+    requires { ⌜ 8 ≤ length (now plan) ⌝ }
+    ensures { λ r. ⌜ r ≡ bodiesAt (now (plan .entry)) ⌝ }
+{
+    buffers::word_at(plan, 6) as usize
+}
+
 // A plan's bytes from the start of out: the header, LC, the entries, the rule without its header.
 pub fn lay(
     rule: &[u8],
     out: &mut [u8],
     n: usize,
-    places: &[usize; 65],
-    inputs: &[u16; 64],
-    outputs: &[u16; 64],
-    j: &[bool; 64],
+    places: &Places,
+    inputs: &[u16; BLOCKS],
+    outputs: &[u16; BLOCKS],
+    j: &Blocks,
 )
     requires { ⌜ Room n (now rule) (now out) (now places) ⌝ }
     ensures { λ _. ⌜ ((r : Rule) → Laid r (now (rule .entry)) n (now (places .entry)) (now (inputs .entry)) (now (outputs .entry)) (now (j .entry))
         → now (out .exit) ≡ over (now (out .entry)) 0 (planOf r (now (rule .entry)))) ⌝ }
 {
     let head = head_size(n);
-    words::copy_bytes_at(out, 0, &rule[..4]);
-    words::put16_at(out, 4, inputs[0]);
+    buffers::copy_bytes_at(out, 0, &rule[..4]);
+    buffers::put16_at(out, 4, inputs[0]);
     put_entries(out, n, places, inputs, outputs, j);
-    words::copy_bytes_at(out, head, &rule[4..]);
+    buffers::copy_bytes_at(out, head, &rule[4..]);
 }

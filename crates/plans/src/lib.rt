@@ -1,19 +1,22 @@
 // A rule's plan: the compiler, and whether bytes are a plan.
 mod bytes;
 
-use paper::Read;
-use paper::Refusal;
-use paper::Reply;
+pub use bytes::bodies_at;
+use definitions::LONGEST;
+use definitions::LONGEST_PLAN;
+use definitions::Read;
+use definitions::Reply;
+use definitions::refuse;
 ghost use mathlib.Core.Path.{_≡_};
 ghost use Prim.Native.Nat.{ℕ, _≤_};
 ghost use lib.ListN.{length, take};
-ghost use Rattle.paper.specs.Rule.{Rule};
-ghost use Rattle.paper.specs.Grammar.{got, ruleOf, blocksIn, longest};
-ghost use Rattle.paper.specs.Plan.{planOf, planSize, same};
-ghost use Rattle.paper.specs.Calls.{Wrote, toCompile};
+ghost use Rattle.definitions.specs.Rule.{Rule};
+ghost use Rattle.definitions.specs.Grammar.{got, ruleOf, blocksIn, longest};
+ghost use Rattle.definitions.specs.Plan.{planOf, planSize, same, planned};
+ghost use Rattle.definitions.specs.Calls.{Wrote, toCompile, columnsReply};
 ghost use Rattle.flows.specs.Flow.{Ruled};
-ghost use Rattle.words.specs.Words.{over};
-ghost use Rattle.plans.specs.Taken.{Carrying, Taking};
+ghost use Rattle.buffers.specs.Words.{over};
+ghost use Rattle.plans.specs.Taken.{Extracted, Taking};
 
 // The plan of a rule, into out from its start.
 fn put_plan(rule: &[u8], out: &mut [u8])
@@ -26,11 +29,12 @@ fn put_plan(rule: &[u8], out: &mut [u8])
     let places = f.places;
     let fv = f.fv;
     let bv = f.bv;
-    let names = f.names;
-    let j = f.j;
-    let masks = closure::columns(n, v, &fv, &bv, &names, &j);
-    let inputs = masks.inputs;
-    let outputs = masks.outputs;
+    let gotos = f.gotos;
+    let jumps = f.jumps;
+    let sets = closure::columns(n, v, &fv, &bv, &gotos, &jumps);
+    let inputs = sets.inputs;
+    let outputs = sets.outputs;
+    let j = sets.j;
     bytes::lay(rule, out, n, &places, &inputs, &outputs, &j);
 }
 
@@ -38,16 +42,13 @@ fn put_plan(rule: &[u8], out: &mut [u8])
 pub fn compile(file: &[u8], out: &mut [u8]) -> Reply
     ensures { λ r. ⌜ Wrote (toCompile (now (file .entry))) (now (out .entry)) r (now (out .exit)) ⌝ }
 {
-    let mut rule = [0u8; 4064];
+    let mut rule = [0u8; LONGEST];
     match rules::open(file, &mut rule) {
         Reply::Refused(f) => Reply::Refused(f),
         Reply::Done(n) => {
-            let size = bytes::head_size(bytes::byte(&rule, 3)) + n - 4;
+            let size = bytes::plan_size(bytes::byte(&rule, 3), n);
             if out.len() < size {
-                return Reply::Refused(Refusal {
-                    number: 12,
-                    place: 0,
-                });
+                return refuse(12, 0);
             }
             put_plan(&rule[..n], out);
             Reply::Done(size)
@@ -61,35 +62,36 @@ pub enum Taken {
     NotPlan,
 }
 
-// Whether the rule in the buffer compiles to these bytes.
+// Whether the rule compiles to these bytes.
 fn compiles_to(rule: &[u8], plan: &[u8]) -> bool
-    requires { ⌜ Ruled (now rule) × (planSize (blocksIn (now rule)) (length (now rule)) ≡ length (now plan)) ⌝ }
+    requires { ⌜ Ruled (now rule) ⌝ }
     ensures { λ b. ⌜ ((r : Rule) (m : ℕ) → ruleOf (now (rule .entry)) ≡ got r m → b ≡ same (planOf r (now (rule .entry))) (now (plan .entry))) ⌝ }
 {
-    let mut again = [0u8; 4578];
+    let mut again = [0u8; LONGEST_PLAN];
     put_plan(rule, &mut again);
-    bytes::equal(&again[..plan.len()], plan)
+    let size = bytes::plan_size(bytes::byte(rule, 3), rule.len());
+    bytes::equal(&again[..size], plan)
 }
 
 // The rule that a plan carries, at the start of a buffer that any rule fits in, if it has a rule's length.
-fn carry(plan: &[u8], rule: &mut [u8]) -> Taken
+fn extract(plan: &[u8], rule: &mut [u8]) -> Taken
     requires { ⌜ longest ≤ length (now rule) ⌝ }
-    ensures { λ t. ⌜ Carrying (now (plan .entry)) t (now (rule .exit)) ⌝ }
+    ensures { λ t. ⌜ Extracted (now (plan .entry)) t (now (rule .exit)) ⌝ }
 {
-    if plan.len() < 4 {
+    if plan.len() < 8 {
         return Taken::NotPlan;
     }
-    let head = bytes::head_size(bytes::byte(plan, 3));
-    if plan.len() < head {
+    let at = bytes::bodies_at(plan);
+    if plan.len() < at {
         return Taken::NotPlan;
     }
-    let size = plan.len() - head + 4;
-    if 4064 < size {
+    let bodies = plan.len() - at;
+    if LONGEST - 4 < bodies {
         return Taken::NotPlan;
     }
-    words::copy_bytes_at(rule, 0, &plan[..4]);
-    words::copy_bytes_at(rule, 4, &plan[head..]);
-    Taken::Rule(size)
+    buffers::copy_bytes_at(rule, 0, &plan[..4]);
+    buffers::copy_bytes_at(rule, 4, &plan[at..]);
+    Taken::Rule(bodies + 4)
 }
 
 // Whether the bytes are a plan. The rule that they carry is left at the start of the buffer.
@@ -97,7 +99,7 @@ pub fn take(plan: &[u8], rule: &mut [u8]) -> Taken
     requires { ⌜ longest ≤ length (now rule) ⌝ }
     ensures { λ t. ⌜ Taking (now (plan .entry)) t (now (rule .exit)) ⌝ }
 {
-    match carry(plan, rule) {
+    match extract(plan, rule) {
         Taken::NotPlan => Taken::NotPlan,
         Taken::Rule(n) => match rules::read_rule(&rule[..n]) {
             Read::Refused(_) => Taken::NotPlan,
@@ -109,5 +111,20 @@ pub fn take(plan: &[u8], rule: &mut [u8]) -> Taken
                 }
             }
         },
+    }
+}
+
+// How many columns the lines of a plan's rows have.
+pub fn columns(plan: &[u8]) -> Reply
+    ensures { λ r. ⌜ r ≡ columnsReply (planned (now (plan .entry))) ⌝ }
+{
+    let mut rule = [0u8; LONGEST];
+    match take(plan, &mut rule) {
+        Taken::NotPlan => refuse(15, 0),
+        Taken::Rule(_) => {
+            let variables = bytes::byte(plan, 1);
+            let lc = buffers::word_at(plan, 4);
+            Reply::Done(closure::place(lc, variables))
+        }
     }
 }

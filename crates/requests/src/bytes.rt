@@ -3,7 +3,7 @@ use crate::input;
 use crate::input::MOST;
 use crate::output;
 use crate::parts;
-use paper::Reply;
+use definitions::Reply;
 ghost use Prim.Native.Nat.{_≤_};
 ghost use lib.ListN.{length};
 

@@ -1,6 +1,6 @@
 // What is printed of an answer, on standard output.
+use definitions::Reply;
 use libc::STDOUT_FILENO;
-use paper::Reply;
 ghost use Prim.Native.Nat.{_*_, _≤_};
 ghost use lib.ListN.{length};
 ghost use Rattle.io.specs.Counts.{Counts};
@@ -71,7 +71,7 @@ fn word(x: i32) {
     if x < 0 {
         text(b"-");
     }
-    number(texts::magnitude(x));
+    number(printing::magnitude(x));
 }
 
 // All words with single spaces between them, or a dash.

@@ -9,12 +9,12 @@ use lib.Signed.{mag}
 use mathlib.Core.Path.{_≡_, refl, sym, _∙_}
 use mathlib.Core.Bool.{Bool}
 use mathlib.Core.List.{List}
-use Rattle.paper.specs.Values.{Val, Out, value, fault, also, outcomeOf}
-use Rattle.paper.specs.Rule.{Expr, Cond}
-use Rattle.paper.specs.Grammar.{Got, got, refused}
-use Rattle.paper.specs.Meaning.{eval, holds}
-use Rattle.paper.specs.declared.Flaw.{Flaw}
-use Rattle.paper.specs.declared.Outcome.{Outcome}
+use Rattle.definitions.specs.Values.{Val, Out, value, fault, also, outcomeOf}
+use Rattle.definitions.specs.Rule.{Expr, Cond}
+use Rattle.definitions.specs.Grammar.{Got, got, refused}
+use Rattle.definitions.specs.Meaning.{eval, holds}
+use Rattle.definitions.specs.declared.Flaw.{Flaw}
+use Rattle.definitions.specs.declared.Outcome.{Outcome}
 use Rattle.rounds.specs.Answer.{Stands, placed, valueAt, heldAt, bothAt, answer, holding, answers}
 use Rattle.rounds.specs.declared.Evaluated.{Evaluated}
 use Rattle.rounds.specs.declared.Held.{Held}

@@ -7,12 +7,12 @@ use mathlib.Core.Path.{_≡_, sym, _∙_}
 use mathlib.Core.Bool.{Bool, true, false}
 use mathlib.Core.List.{List}
 use lib.ListN.{length, getD}
-use Rattle.paper.specs.Values.{Val, value}
-use Rattle.paper.specs.Rule.{Cond, End, Goto, Jump, Stop, If}
-use Rattle.paper.specs.Grammar.{got, refused, two, targetAt, ahead, anywhere, depth, condAt, endAt, endBody, endTag}
-use Rattle.paper.specs.Meaning.{holds}
-use Rattle.paper.specs.Direct.{exit}
-use Rattle.paper.specs.declared.Flaw.{Flaw}
+use Rattle.definitions.specs.Values.{Val, value}
+use Rattle.definitions.specs.Rule.{Cond, End, Goto, Jump, Stop, If}
+use Rattle.definitions.specs.Grammar.{got, refused, two, targetAt, mayGoto, mayJump, depth, condAt, endAt, endBody, endTag}
+use Rattle.definitions.specs.Meaning.{holds}
+use Rattle.definitions.specs.Direct.{exit}
+use Rattle.definitions.specs.declared.Flaw.{Flaw}
 use Rattle.rounds.specs.Skip.{past}
 use Rattle.rounds.specs.Answer.{Stands, holding}
 use Rattle.rounds.specs.Run.{EndHere, leftOf}
@@ -29,33 +29,33 @@ module _ (left v : ℕ) (s : List ℕ) (at : ℕ) (h : EndHere left v s at) wher
   unfolding endAt
   end-there = go left (h .reads)
     where
-      go : (d : ℕ) → endAt d (h .blocks) (h .block) v s at ≡ got (h .ending) (h .next) → (at < length s) × (1 ≤ d)
+      go : (d : ℕ) → endAt d (h .targets) v s at ≡ got (h .ending) (h .next) → (at < length s) × (1 ≤ d)
       go zero q = absurd (no-got 8 at _ _ (byte-got s at (λ t _. refused 8 at) _ _ q .1))
-      go (suc d) q = (byte-got s at (λ t _. endBody (endTag t) (h .blocks) (h .block) v s (λ m. endAt d (h .blocks) (h .block) v s m) at) _ _ q .0, omega arith)
+      go (suc d) q = (byte-got s at (λ t _. endBody (endTag t) (h .targets) v s (λ m. endAt d (h .targets) v s m) at) _ _ q .0, omega arith)
 
   -- what follows the tag
-  end-is : endBody (endTag (getD s at 0)) (h .blocks) (h .block) v s (λ m. endAt (left - 1) (h .blocks) (h .block) v s m) at ≡ got (h .ending) (h .next)
+  end-is : endBody (endTag (getD s at 0)) (h .targets) v s (λ m. endAt (left - 1) (h .targets) v s m) at ≡ got (h .ending) (h .next)
   unfolding endAt
   end-is = go left (end-there .1) (h .reads)
     where
-      go : (d : ℕ) → 1 ≤ d → endAt d (h .blocks) (h .block) v s at ≡ got (h .ending) (h .next) → endBody (endTag (getD s at 0)) (h .blocks) (h .block) v s (λ m. endAt (d - 1) (h .blocks) (h .block) v s m) at ≡ got (h .ending) (h .next)
+      go : (d : ℕ) → 1 ≤ d → endAt d (h .targets) v s at ≡ got (h .ending) (h .next) → endBody (endTag (getD s at 0)) (h .targets) v s (λ m. endAt (d - 1) (h .targets) v s m) at ≡ got (h .ending) (h .next)
       go zero l q = absurd (omega arith)
-      go (suc d) l q = simp sub-one (byte-got s at (λ t _. endBody (endTag t) (h .blocks) (h .block) v s (λ m. endAt d (h .blocks) (h .block) v s m) at) _ _ q .1)
+      go (suc d) l q = simp sub-one (byte-got s at (λ t _. endBody (endTag t) (h .targets) v s (λ m. endAt d (h .targets) v s m) at) _ _ q .1)
 
-  end-as : (tag : ℕ) → getD s at 0 ≡ tag → endBody (endTag tag) (h .blocks) (h .block) v s (λ m. endAt (left - 1) (h .blocks) (h .block) v s m) at ≡ got (h .ending) (h .next)
+  end-as : (tag : ℕ) → getD s at 0 ≡ tag → endBody (endTag tag) (h .targets) v s (λ m. endAt (left - 1) (h .targets) v s m) at ≡ got (h .ending) (h .next)
   end-as tag e = rw (← e) end-is
 
   -- a goto, a jump, a stop
   end-goto : getD s at 0 ≡ 0x30 → (at + 1 < length s) × (h .ending ≡ Goto (getD s (at + 1) 0))
   end-goto e =
-      let w = one-got Goto (targetAt (ahead (h .blocks) (h .block)) s) (at + 1) (h .ending) (h .next) (end-as 0x30 e) in
-      let c = target-got s (at + 1) (ahead (h .blocks) (h .block)) (w .0) (h .next) (w .1) in
+      let w = one-got Goto (targetAt (mayGoto (h .targets)) s) (at + 1) (h .ending) (h .next) (end-as 0x30 e) in
+      let c = target-got s (at + 1) (mayGoto (h .targets)) (w .0) (h .next) (w .1) in
       (c .0, w .2 ∙ rw (c .1))
 
   end-jump : getD s at 0 ≡ 0x31 → (at + 1 < length s) × (h .ending ≡ Jump (getD s (at + 1) 0))
   end-jump e =
-      let w = one-got Jump (targetAt (anywhere (h .blocks)) s) (at + 1) (h .ending) (h .next) (end-as 0x31 e) in
-      let c = target-got s (at + 1) (anywhere (h .blocks)) (w .0) (h .next) (w .1) in
+      let w = one-got Jump (targetAt (mayJump (h .targets)) s) (at + 1) (h .ending) (h .next) (end-as 0x31 e) in
+      let c = target-got s (at + 1) (mayJump (h .targets)) (w .0) (h .next) (w .1) in
       (c .0, w .2 ∙ rw (c .1))
 
   pub goto-there : getD s at 0 ≡ 0x30 → at + 1 < length s
@@ -97,14 +97,14 @@ module _ (left v : ℕ) (s : List ℕ) (at : ℕ) (h : EndHere left v s at) wher
       m : ℕ
       k : ℕ
       test-reads : condAt depth v s (at + 1) ≡ got test m
-      first-reads : endAt (left - 1) (h .blocks) (h .block) v s m ≡ got first k
-      second-reads : endAt (left - 1) (h .blocks) (h .block) v s k ≡ got second (h .next)
+      first-reads : endAt (left - 1) (h .targets) v s m ≡ got first k
+      second-reads : endAt (left - 1) (h .targets) v s k ≡ got second (h .next)
       is : h .ending ≡ If test first second
 
     parts : Parts
     parts =
-        let w = then-got (condAt depth v s (at + 1)) (λ c m. two (If c) (λ m. endAt (left - 1) (h .blocks) (h .block) v s m) m) (h .ending) (h .next) (end-as 0x33 tag) in
-        let u = two-got (If (w .0)) (λ m. endAt (left - 1) (h .blocks) (h .block) v s m) (w .1) (h .ending) (h .next) (w .3) in
+        let w = then-got (condAt depth v s (at + 1)) (λ c m. two (If c) (λ m. endAt (left - 1) (h .targets) v s m) m) (h .ending) (h .next) (end-as 0x33 tag) in
+        let u = two-got (If (w .0)) (λ m. endAt (left - 1) (h .targets) v s m) (w .1) (h .ending) (h .next) (w .3) in
         record { test = w .0; first = u .0; second = u .2; m = w .1; k = u .1; test-reads = w .2; first-reads = u .3; second-reads = u .4; is = u .5 }
 
     pub if-stands : Stands (condAt depth v s (at + 1))
@@ -128,16 +128,15 @@ module _ (left v : ℕ) (s : List ℕ) (at : ℕ) (h : EndHere left v s at) wher
           (cc, rw (← same) (w .2))
 
       pub if-first : EndHere (left - 1) v s n
-      if-first = record { blocks = h .blocks; block = h .block; ending = parts .first; next = parts .k; reads = rw (held .0) at (parts .first-reads) }
+      if-first = record { targets = h .targets; ending = parts .first; next = parts .k; reads = rw (held .0) at (parts .first-reads) }
 
       pub if-second : EndHere (left - 1) v s (past 1 s n)
       unfolding if-first
       if-second = record {
-        blocks = h .blocks;
-        block = h .block;
+        targets = h .targets;
         ending = parts .second;
         next = h .next;
-        reads = rw (past-one s (λ m. endAt (left - 1) (h .blocks) (h .block) v s m) (end-past (left - 1) (h .blocks) (h .block) v s) n (parts .first) (parts .k) (if-first .reads)) (parts .second-reads);
+        reads = rw (past-one s (λ m. endAt (left - 1) (h .targets) v s m) (end-past (left - 1) (h .targets) v s) n (parts .first) (parts .k) (if-first .reads)) (parts .second-reads);
       }
 
       pub if-true : (r : Left) → b ≡ true → ((g : EndHere (left - 1) v s n) → r ≡ leftOf (exit (g .ending) env)) → r ≡ leftOf (exit (h .ending) env)

@@ -9,12 +9,12 @@ use mathlib.Core.Bool.{Bool, true, false, not}
 use mathlib.Core.List.{List}
 use lib.IntN.{pos}
 use lib.ListN.{length, getD}
-use Rattle.paper.specs.Values.{Val, value, negation}
-use Rattle.paper.specs.Rule.{Joint, Expr, Cond, Const, Var, Op, Case, Compare, Not, Join}
-use Rattle.paper.specs.Grammar.{Got, got, refused, then, one, two, constantIn, constantAt, variableAt, exprAt, condAt, exprBody, condBody}
-use Rattle.paper.specs.Grammar.{exprTag, condTag}
-use Rattle.paper.specs.Meaning.{applied, compared, decided, eval, holds}
-use Rattle.paper.specs.declared.Flaw.{Flaw}
+use Rattle.definitions.specs.Values.{Val, value, negation}
+use Rattle.definitions.specs.Rule.{Joint, Expr, Cond, Const, Var, Op, Case, Compare, Not, Join}
+use Rattle.definitions.specs.Grammar.{Got, got, refused, then, one, two, constantIn, constantAt, variableAt, exprAt, condAt, exprBody, condBody}
+use Rattle.definitions.specs.Grammar.{exprTag, condTag}
+use Rattle.definitions.specs.Meaning.{applied, compared, decided, eval, holds}
+use Rattle.definitions.specs.declared.Flaw.{Flaw}
 use Rattle.values.specs.Tags.{operatorOf, relationOf, jointOf}
 use Rattle.values.proofs.Tags.{operator-tag, relation-tag, joint-tag}
 use Rattle.rounds.specs.Skip.{past}

@@ -8,8 +8,8 @@ use mathlib.Core.Bool.{Bool}
 use mathlib.Core.List.{List}
 use lib.IntN.{pos}
 use lib.ListN.{set}
-use Rattle.paper.specs.Values.{Val}
-use Rattle.paper.specs.Plan.{bitOf}
+use Rattle.definitions.specs.Values.{Val}
+use Rattle.definitions.specs.Plan.{bitOf}
 use Rattle.columns.specs.OnPlan.{kept}
 
 -- the next bit

@@ -7,10 +7,11 @@ use mathlib.Core.Bool.{Bool}
 use mathlib.Core.List.{List, []}
 use lib.ListN.{length, getD, take}
 use lib.Seq.{getD-take}
-use Rattle.paper.specs.Rule.{Expr, Cond, End, Stmt, Block, Set, Emit, Const, Var, Neg, Op, Case, Compare, Not, Join, Goto, Jump, If}
-use Rattle.paper.specs.Grammar.{Got, got, refused, then, byteAt, one, two, constantAt, variableAt, targetAt, ahead, anywhere, depth, levels, exprAt, condAt, endAt, exprBody, condBody, endBody, setAt, emitAt, after, blockBody, blockFrom}
-use Rattle.paper.specs.Grammar.{ExprTag, constTag, varTag, negTag, caseTag, badExpr, opTag, exprTag, CondTag, notTag, badCond, compareTag, joinTag, condTag}
-use Rattle.paper.specs.Grammar.{EndTag, gotoTag, jumpTag, stopTag, ifTag, badEnd, endTag, StmtTag, setTag, emitTag, noStmt, stmtTag}
+use Rattle.definitions.specs.Rule.{Expr, Cond, End, Stmt, Block, Set, Emit, Const, Var, Neg, Op, Case, Compare, Not, Join, Goto, Jump, If}
+use Rattle.definitions.specs.declared.Targets.{Targets}
+use Rattle.definitions.specs.Grammar.{Got, got, refused, then, byteAt, one, two, constantAt, variableAt, targetAt, mayGoto, mayJump, depth, levels, exprAt, condAt, endAt, exprBody, condBody, endBody, setAt, emitAt, after, blockBody, blockFrom}
+use Rattle.definitions.specs.Grammar.{ExprTag, constTag, varTag, negTag, caseTag, badExpr, opTag, exprTag, CondTag, notTag, badCond, compareTag, joinTag, condTag}
+use Rattle.definitions.specs.Grammar.{EndTag, gotoTag, jumpTag, stopTag, ifTag, badEnd, endTag, StmtTag, setTag, emitTag, noStmt, stmtTag}
 use Rattle.rounds.specs.Run.{BlockHere, Begins}
 use Rattle.rounds.proofs.Stepping.{block-there}
 use Rattle.rounds.proofs.Reading.{no-got, then-got, one-got, two-got, byte-got, constant-got, variable-got, target-got}
@@ -98,20 +99,20 @@ mutual
       (cond-body s s' p v (λ n. exprAt d v s n) (λ n. exprAt d v s' n) (λ n. condAt d v s n) (λ n. condAt d v s' n) (λ at a n e. expr-over d v s s' p at a n e) (λ at a n e. cond-over d v s s' p at a n e) at n (condTag (getD s at 0)) a)
       e
 
-module _ (n b v : ℕ) (s s' : List ℕ) (p : Begins s s') where
-  end-body : (E E' : ℕ → Got End) → Over E E' → (at m : ℕ) (x : EndTag) (a : End) → endBody x n b v s E at ≡ got a m → endBody x n b v s' E' at ≡ got a m
-  end-body E E' h at m gotoTag a e = one-over Goto (targetAt (ahead n b) s) (targetAt (ahead n b) s') (target-over s s' p (ahead n b)) (at + 1) a m e
-  end-body E E' h at m jumpTag a e = one-over Jump (targetAt (anywhere n) s) (targetAt (anywhere n) s') (target-over s s' p (anywhere n)) (at + 1) a m e
+module _ (ts : Targets) (v : ℕ) (s s' : List ℕ) (p : Begins s s') where
+  end-body : (E E' : ℕ → Got End) → Over E E' → (at m : ℕ) (x : EndTag) (a : End) → endBody x ts v s E at ≡ got a m → endBody x ts v s' E' at ≡ got a m
+  end-body E E' h at m gotoTag a e = one-over Goto (targetAt (mayGoto ts) s) (targetAt (mayGoto ts) s') (target-over s s' p (mayGoto ts)) (at + 1) a m e
+  end-body E E' h at m jumpTag a e = one-over Jump (targetAt (mayJump ts) s) (targetAt (mayJump ts) s') (target-over s s' p (mayJump ts)) (at + 1) a m e
   end-body E E' h at m stopTag a e = e
   end-body E E' h at m ifTag a e = three-over If (λ k. condAt depth v s k) (λ k. condAt depth v s' k) E E' (cond-over depth v s s' p) h (at + 1) a m e
   end-body E E' h at m badEnd a e = e
 
-  end-over : (d : ℕ) → Over (λ at. endAt d n b v s at) (λ at. endAt d n b v s' at)
+  end-over : (d : ℕ) → Over (λ at. endAt d ts v s at) (λ at. endAt d ts v s' at)
   unfolding endAt
   end-over zero at a m e = tag-over s s' p at (λ t. refused 8 at) (λ t. refused 8 at) a m (λ q. q) e
   end-over (suc d) at a m e =
-      tag-over s s' p at (λ t. endBody (endTag t) n b v s (λ m. endAt d n b v s m) at) (λ t. endBody (endTag t) n b v s' (λ m. endAt d n b v s' m) at) a m
-      (end-body (λ m. endAt d n b v s m) (λ m. endAt d n b v s' m) (λ at a m e. end-over d at a m e) at m (endTag (getD s at 0)) a)
+      tag-over s s' p at (λ t. endBody (endTag t) ts v s (λ m. endAt d ts v s m) at) (λ t. endBody (endTag t) ts v s' (λ m. endAt d ts v s' m) at) a m
+      (end-body (λ m. endAt d ts v s m) (λ m. endAt d ts v s' m) (λ at a m e. end-over d at a m e) at m (endTag (getD s at 0)) a)
       e
 
   set-over : Over (setAt v s) (setAt v s')
@@ -127,14 +128,14 @@ module _ (n b v : ℕ) (s s' : List ℕ) (p : Begins s s') where
       let w = then-got (S at) (λ x m. one (after x) B m) a m e in
       rw (g at (w .0) (w .1) (w .2)) (one-over (after (w .0)) B B' h (w .1) a m (w .3))
 
-  block-body : (B B' : ℕ → Got Block) → Over B B' → (at m : ℕ) (x : StmtTag) (a : Block) → blockBody x n b v s B at ≡ got a m → blockBody x n b v s' B' at ≡ got a m
+  block-body : (B B' : ℕ → Got Block) → Over B B' → (at m : ℕ) (x : StmtTag) (a : Block) → blockBody x ts v s B at ≡ got a m → blockBody x ts v s' B' at ≡ got a m
   block-body B B' h at m setTag a e = later-over (setAt v s) (setAt v s') B B' set-over h (at + 1) a m e
   block-body B B' h at m emitTag a e = later-over (emitAt v s) (emitAt v s') B B' emit-over h (at + 1) a m e
-  block-body B B' h at m noStmt a e = one-over (λ e. record { body = []; ending = e }) (endAt levels n b v s) (endAt levels n b v s') (end-over levels) at a m e
+  block-body B B' h at m noStmt a e = one-over (λ e. record { body = []; ending = e }) (endAt levels ts v s) (endAt levels ts v s') (end-over levels) at a m e
 
-  pub block-over : (f : ℕ) → Over (λ at. blockFrom f n b v s at) (λ at. blockFrom f n b v s' at)
+  pub block-over : (f : ℕ) → Over (λ at. blockFrom f ts v s at) (λ at. blockFrom f ts v s' at)
   unfolding blockFrom
   block-over zero at a m e = absurd (no-got 9 (length s) a m e)
   block-over (suc f) at a m e =
-      let there = block-there v s at (record { bound = suc f; blocks = n; block = b; what = a; next = m; reads = e }) in
-      rw (p .same at there) (block-body (λ m. blockFrom f n b v s m) (λ m. blockFrom f n b v s' m) (λ at a m e. block-over f at a m e) at m (stmtTag (getD s at 0)) a e)
+      let there = block-there v s at (record { bound = suc f; targets = ts; what = a; next = m; reads = e }) in
+      rw (p .same at there) (block-body (λ m. blockFrom f ts v s m) (λ m. blockFrom f ts v s' m) (λ at a m e. block-over f at a m e) at m (stmtTag (getD s at 0)) a e)

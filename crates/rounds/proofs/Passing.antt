@@ -3,10 +3,10 @@ use Prim.Native.Nat.{ℕ}
 use mathlib.Core.Path.{_≡_, refl, ap, _∙_}
 use mathlib.Core.List.{List}
 use lib.ListN.{take}
-use Rattle.paper.specs.Values.{Val, Out, value, fault}
-use Rattle.paper.specs.Grammar.{levels}
-use Rattle.paper.specs.Plan.{bitOf}
-use Rattle.paper.specs.Direct.{ended, Exit, toBlock, toRound, toStop, exit, Round, leave}
+use Rattle.definitions.specs.Values.{Val, Out, value, fault}
+use Rattle.definitions.specs.Grammar.{levels}
+use Rattle.definitions.specs.Plan.{bitOf}
+use Rattle.definitions.specs.Direct.{ended, Exit, toBlock, toRound, toStop, exit, Round, leave}
 use Rattle.columns.specs.OnPlan.{kept}
 use Rattle.rounds.specs.Run.{EndHere, leftOf, BlockHere, Stepped, wentOf, roundOf, labelsOf, Passed}
 use Rattle.rounds.specs.declared.Left.{Left}
@@ -28,7 +28,7 @@ led-labels (Left.Fault k) n = refl
 
 -- where the statements end, the block's ending stands
 pub block-ending : (v : ℕ) (s : List ℕ) (at : ℕ) (h : BlockHere v s at) (q count : ℕ) (env labels : List Val) (p n : ℕ) (vars' labels' : List Val) → Stepped v s at h q count env labels (Ran.Ready p n) vars' labels' → EndHere levels v s p
-block-ending v s at h q count env labels p n vars' labels' w = record { blocks = h .blocks; block = h .block; ending = h .what .ending; next = h .next; reads = w .ending p n refl }
+block-ending v s at h q count env labels p n vars' labels' w = record { targets = h .targets; ending = h .what .ending; next = h .next; reads = w .ending p n refl }
 
 module _ (v : ℕ) (s : List ℕ) (at : ℕ) (h : BlockHere v s at) (inputs outputs q count : ℕ) (vars labels : List Val) where
   -- the row ended among the statements

@@ -8,7 +8,7 @@ use mathlib.Core.List.{List}
 use lib.Dec.{ltb, leb}
 use lib.IntN.{ℤ}
 use lib.ListN.{length, getD}
-use Rattle.paper.specs.Grammar.{Got, got, refused, then, byteAt, one, two, constantIn, constantAt, variableAt, targetAt}
+use Rattle.definitions.specs.Grammar.{Got, got, refused, then, byteAt, one, two, constantIn, constantAt, variableAt, targetAt}
 
 -- a refusal finds nothing
 pub no-got : {A : Type 0} (k p : ℕ) (a : A) (n : ℕ) → refused k p ≡ got a n → ⊥

@@ -7,19 +7,19 @@ use mathlib.Core.List.{List, []}
 use native.Mathlib.Omega.{arith}
 use lib.ListN.{length, take, getD}
 use borrow.Author.Tests.{ne-eqb}
-use Rattle.paper.specs.Values.{Val, Out, value, fault}
-use Rattle.paper.specs.Rule.{Rule, size, blockOf}
-use Rattle.paper.specs.Columns.{flowOf, inputsOf, outputsOf}
-use Rattle.paper.specs.Plan.{maskOf, bitOf, placeOf, carried}
-use Rattle.paper.specs.Pages.{wordAt}
-use Rattle.paper.specs.Direct.{Way, on, ended, steps, Exit, toBlock, toRound, toStop, exit, Round, jumped, finished, leave}
-use Rattle.paper.proofs.Masks.{read-back}
+use Rattle.definitions.specs.Values.{Val, Out, value, fault}
+use Rattle.definitions.specs.Rule.{Rule, size, blockOf}
+use Rattle.definitions.specs.Grammar.{targetsOf}
+use Rattle.definitions.specs.Columns.{flowOf, inputsOf, outputsOf}
+use Rattle.definitions.specs.Plan.{maskOf, bitOf, placeOf, wordAt, bodiesAt, carried}
+use Rattle.definitions.specs.Direct.{Way, on, ended, steps, Exit, toBlock, toRound, toStop, exit, Round, jumped, finished, leave}
+use Rattle.definitions.proofs.Masks.{read-back}
 use Rattle.columns.specs.OnPlan.{kept, entered, handed, leaving, planWalk}
 use Rattle.columns.specs.Proper.{Proper}
 use Rattle.columns.proofs.Endings.{Named, exit-named}
 use Rattle.columns.proofs.Keeping.{KeptWay, steps-kept, leave-kept}
 use Rattle.plans.specs.Accepted.{ruleIn, Accepted}
-use Rattle.plans.proofs.Carried.{at-variables, at-blocks, at-offset, at-inputs, at-outputs, at-place}
+use Rattle.plans.proofs.Carried.{at-variables, at-blocks, at-past, at-offset, at-inputs, at-outputs, at-place}
 use Rattle.rounds.specs.declared.Went.{Went}
 use Rattle.rounds.specs.declared.Entry.{Entry}
 use Rattle.rounds.specs.Run.{Begins, BlockHere, roundOf, labelsOf, leftBy, Passed}
@@ -43,31 +43,30 @@ module _ (p : List ℕ) (a : Accepted p) where
     abbrev pub here : (v′ : ℕ) (s : List ℕ) (at : ℕ) → v′ ≡ getD p 1 0 → Begins (carried p) s → at ≡ placeOf r (carried p) b → BlockHere v′ s at
     here v′ s at ev es ea = record {
       bound = length (carried p);
-      blocks = size r;
-      block = b;
+      targets = targetsOf (size r) b;
       what = blockOf r b;
       next = placeOf r (carried p) (suc b);
-      reads = rw (ev ∙ at-variables p a, ea) (block-over (size r) b v (carried p) s es (length (carried p)) (placeOf r (carried p) b) (blockOf r b) (placeOf r (carried p) (suc b)) (at-place p a b h));
+      reads = rw (ev ∙ at-variables p a, ea) (block-over (targetsOf (size r) b) v (carried p) s es (length (carried p)) (placeOf r (carried p) b) (blockOf r b) (placeOf r (carried p) (suc b)) (at-place p a b h));
     }
 
     -- what the entry's words say
-    pub entry-is : (n at offset place inputs outputs : ℕ) → n ≡ getD p 3 0 → at ≡ 6 + 8 * b → offset ≡ wordAt p at → place ≡ offset - (2 + 8 * n) → inputs ≡ wordAt p (at + 2) → outputs ≡ wordAt p (at + 4)
+    pub entry-is : (bodies at offset place inputs outputs : ℕ) → bodies ≡ bodiesAt p → at ≡ 6 + 8 * b → offset ≡ wordAt p at → place ≡ offset - bodies + 4 → inputs ≡ wordAt p (at + 2) → outputs ≡ wordAt p (at + 4)
         → Entered p b (record { place = place; inputs = inputs; outputs = outputs })
-    entry-is n at offset place inputs outputs en ea eo ep ei eu =
+    entry-is bodies at offset place inputs outputs en ea eo ep ei eu =
         let z : at ≡ 6 + (8 * b + 0) = omega arith in
         let i : at + 2 ≡ 6 + (8 * b + 2) = omega arith in
         let o : at + 4 ≡ 6 + (8 * b + 4) = omega arith in
         record {
-          place' = omega (arith, eo ∙ ap (wordAt p) z ∙ at-offset p a b h, en ∙ at-blocks p a);
+          place' = omega (arith, eo ∙ ap (wordAt p) z ∙ at-offset p a b h, at-past p a b h);
           inputs' = ei ∙ ap (wordAt p) i ∙ at-inputs p a b h;
           outputs' = eu ∙ ap (wordAt p) o ∙ at-outputs p a b h;
         }
 
-    -- the offset is past the entries
-    pub entry-past : (n at offset : ℕ) → n ≡ getD p 3 0 → at ≡ 6 + 8 * b → offset ≡ wordAt p at → 2 + 8 * n ≤ offset
-    entry-past n at offset en ea eo =
+    -- the offset is one of the bodies
+    pub entry-past : (bodies at offset : ℕ) → bodies ≡ bodiesAt p → at ≡ 6 + 8 * b → offset ≡ wordAt p at → bodies ≤ offset
+    entry-past bodies at offset en ea eo =
         let z : at ≡ 6 + (8 * b + 0) = omega arith in
-        omega (arith, eo ∙ ap (wordAt p) z ∙ at-offset p a b h, en ∙ at-blocks p a)
+        omega (arith, eo ∙ ap (wordAt p) z ∙ at-offset p a b h)
 
     -- ---- a block that was run, in the words of the walk
     module _ {v′ : ℕ} {s : List ℕ} (ev : v′ ≡ getD p 1 0) (es : Begins (carried p) s) {e : Entry} (said : Entered p b e)
@@ -104,7 +103,7 @@ module _ (p : List ℕ) (a : Accepted p) where
           exits env ls (value (toBlock u)) n f =
               let e = f (λ x _ _. finished x []) in
               let same : t ≡ u = cc in
-              rw same (ok .target-below b u h (n .goes-on u refl))
+              rw same (ok .goto-below b u h (n .goes u refl))
           exits env ls (value (toRound u)) n f = let e = f (λ x _ _. finished x []) in let z : _≡_ {A = ℕ} 0 1 = cc in absurd (omega arith)
           exits env ls (value toStop) n f = let e = f (λ x _ _. jumped x [] []) in let z : _≡_ {A = ℕ} 0 1 = cc in absurd (omega arith)
           exits env ls (fault x) n f = let e = f (λ x _ _. jumped x [] []) in let z : _≡_ {A = ℕ} 0 1 = cc in absurd (omega arith)

@@ -8,10 +8,11 @@ use mathlib.Core.Bool.{Bool, true, false, cond}
 use mathlib.Core.List.{List}
 use lib.Dec.{ltb}
 use lib.ListN.{length, getD}
-use Rattle.paper.specs.Rule.{Expr, Cond, End, Const, Var, Neg, Op, Case, Compare, Not, Join, Goto, Jump, If}
-use Rattle.paper.specs.Grammar.{Got, got, refused, then, one, two, constantAt, variableAt, targetAt, ahead, anywhere, exprAt, condAt, endAt, exprBody, condBody, endBody, depth}
-use Rattle.paper.specs.Grammar.{ExprTag, constTag, varTag, negTag, caseTag, badExpr, opTag, exprTag}
-use Rattle.paper.specs.Grammar.{CondTag, notTag, badCond, compareTag, joinTag, condTag, EndTag, gotoTag, jumpTag, stopTag, ifTag, badEnd, endTag}
+use Rattle.definitions.specs.Rule.{Expr, Cond, End, Const, Var, Neg, Op, Case, Compare, Not, Join, Goto, Jump, If}
+use Rattle.definitions.specs.declared.Targets.{Targets}
+use Rattle.definitions.specs.Grammar.{Got, got, refused, then, one, two, constantAt, variableAt, targetAt, mayGoto, mayJump, exprAt, condAt, endAt, exprBody, condBody, endBody, depth}
+use Rattle.definitions.specs.Grammar.{ExprTag, constTag, varTag, negTag, caseTag, badExpr, opTag, exprTag}
+use Rattle.definitions.specs.Grammar.{CondTag, notTag, badCond, compareTag, joinTag, condTag, EndTag, gotoTag, jumpTag, stopTag, ifTag, badEnd, endTag}
 use Rattle.rounds.specs.Skip.{Token, token, endToken, condToken, exprToken, tokenOf, pass, past}
 use Rattle.rounds.proofs.Tags.{expr-bad, cond-bad, end-bad}
 use Rattle.rounds.proofs.Reading.{no-got, then-got, one-got, two-got, byte-got, constant-got, variable-got, target-got}
@@ -184,21 +185,21 @@ mutual
       let b = byte-got s at (λ t _. condBody (condTag t) (λ n. exprAt d v s n) (λ n. condAt d v s n) at) a n e in
       cond-body s v (λ n. exprAt d v s n) (λ n. condAt d v s n) (λ p at a n e. expr-past d v s p at a n e) (λ p at a n e. cond-past d v s p at a n e) p at (b .0) (condTag (getD s at 0)) refl a n (b .1)
 
--- an ending of block b, of n blocks
-module _ (n b v : ℕ) (s : List ℕ) (p at : ℕ) (there : at < length s) (E : ℕ → Got End) (hE : Passes s E) where
-  end-body : (x : EndTag) → endTag (getD s at 0) ≡ x → (a : End) (m : ℕ) → endBody x n b v s E at ≡ got a m → past (p + 1) s at ≡ past p s m
-  end-body gotoTag q a m e = let w = one-got Goto (targetAt (ahead n b) s) (at + 1) a m e in after-token s p at 2 0 m there (end-token _ _ q (λ z. let o : _≡_ {A = ℕ} 0 1 = cc in omega arith)) (ends s p at 1 m (target-got s (at + 1) (ahead n b) (w .0) m (w .1) .2))
-  end-body jumpTag q a m e = let w = one-got Jump (targetAt (anywhere n) s) (at + 1) a m e in after-token s p at 2 0 m there (end-token _ _ q (λ z. let o : _≡_ {A = ℕ} 0 1 = cc in omega arith)) (ends s p at 1 m (target-got s (at + 1) (anywhere n) (w .0) m (w .1) .2))
+-- an ending
+module _ (ts : Targets) (v : ℕ) (s : List ℕ) (p at : ℕ) (there : at < length s) (E : ℕ → Got End) (hE : Passes s E) where
+  end-body : (x : EndTag) → endTag (getD s at 0) ≡ x → (a : End) (m : ℕ) → endBody x ts v s E at ≡ got a m → past (p + 1) s at ≡ past p s m
+  end-body gotoTag q a m e = let w = one-got Goto (targetAt (mayGoto ts) s) (at + 1) a m e in after-token s p at 2 0 m there (end-token _ _ q (λ z. let o : _≡_ {A = ℕ} 0 1 = cc in omega arith)) (ends s p at 1 m (target-got s (at + 1) (mayGoto ts) (w .0) m (w .1) .2))
+  end-body jumpTag q a m e = let w = one-got Jump (targetAt (mayJump ts) s) (at + 1) a m e in after-token s p at 2 0 m there (end-token _ _ q (λ z. let o : _≡_ {A = ℕ} 0 1 = cc in omega arith)) (ends s p at 1 m (target-got s (at + 1) (mayJump ts) (w .0) m (w .1) .2))
   end-body stopTag q a m e = after-token s p at 1 0 m there (end-token _ _ q (λ z. let o : _≡_ {A = ℕ} 0 1 = cc in omega arith)) (let o : m ≡ at + 1 = cc in ends s p at 0 m (omega arith))
   end-body ifTag q a m e = after-token s p at 1 3 m there (end-token _ _ q (λ z. let o : _≡_ {A = ℕ} 0 1 = cc in omega arith)) (three-past s If (λ k. condAt depth v s k) E (cond-past depth v s) hE p (at + 1) a m e)
   end-body badEnd q a m e = absurd (no-got 5 at a m e)
 
-pub end-past : (d n b v : ℕ) (s : List ℕ) → Passes s (λ at. endAt d n b v s at)
+pub end-past : (d : ℕ) (ts : Targets) (v : ℕ) (s : List ℕ) → Passes s (λ at. endAt d ts v s at)
 unfolding endAt
-end-past zero n b v s p at a m e = absurd (no-got 8 at a m (byte-got s at (λ t _. refused 8 at) a m e .1))
-end-past (suc d) n b v s p at a m e =
-    let w = byte-got s at (λ t _. endBody (endTag t) n b v s (λ m. endAt d n b v s m) at) a m e in
-    end-body n b v s p at (w .0) (λ m. endAt d n b v s m) (λ p at a m e. end-past d n b v s p at a m e) (endTag (getD s at 0)) refl a m (w .1)
+end-past zero ts v s p at a m e = absurd (no-got 8 at a m (byte-got s at (λ t _. refused 8 at) a m e .1))
+end-past (suc d) ts v s p at a m e =
+    let w = byte-got s at (λ t _. endBody (endTag t) ts v s (λ m. endAt d ts v s m) at) a m e in
+    end-body ts v s p at (w .0) (λ m. endAt d ts v s m) (λ p at a m e. end-past d ts v s p at a m e) (endTag (getD s at 0)) refl a m (w .1)
 
 -- where one reading of a kind ends
 pub past-one : (s : List ℕ) {A : Type 0} (E : ℕ → Got A) → Passes s E → (at : ℕ) (a : A) (n : ℕ) → E at ≡ got a n → past 1 s at ≡ n

@@ -7,12 +7,13 @@ use mathlib.Core.Path.{_≡_, refl, sym, ap, subst, _∙_}
 use mathlib.Core.List.{List, [], _∷_, _++_}
 use lib.ListN.{length, getD, take, drop, set, length-set}
 use lib.Seq.{length-take-le, take-suc-set, drop-set-lt, drop-drop}
-use Rattle.paper.specs.Values.{Val, value, fault}
-use Rattle.paper.specs.Rule.{Expr, Stmt, Set, Emit, End, Block}
-use Rattle.paper.specs.Grammar.{got, one, variableAt, depth, levels, exprAt, setAt, emitAt, endAt, after, StmtTag, setTag, emitTag, noStmt, stmtTag, blockBody, blockFrom}
-use Rattle.paper.specs.Meaning.{eval}
-use Rattle.paper.specs.Direct.{on, ended, faulted, step, steps}
-use Rattle.paper.specs.declared.Flaw.{Flaw}
+use Rattle.definitions.specs.Values.{Val, value, fault}
+use Rattle.definitions.specs.Rule.{Expr, Stmt, Set, Emit, End, Block}
+use Rattle.definitions.specs.declared.Targets.{Targets}
+use Rattle.definitions.specs.Grammar.{got, one, variableAt, depth, levels, exprAt, setAt, emitAt, endAt, after, StmtTag, setTag, emitTag, noStmt, stmtTag, blockBody, blockFrom}
+use Rattle.definitions.specs.Meaning.{eval}
+use Rattle.definitions.specs.Direct.{on, ended, faulted, step, steps}
+use Rattle.definitions.specs.declared.Flaw.{Flaw}
 use Rattle.rounds.specs.Skip.{past}
 use Rattle.rounds.specs.Answer.{Stands, answer}
 use Rattle.rounds.specs.Run.{BlockHere, Stepped}
@@ -32,11 +33,11 @@ expr-grows d v s at e n q =
 
 module _ (v : ℕ) (s : List ℕ) (at : ℕ) (h : BlockHere v s at) where
   -- what follows, by the tag
-  block-is : (f : ℕ) × (blockBody (stmtTag (getD s at 0)) (h .blocks) (h .block) v s (λ m. blockFrom f (h .blocks) (h .block) v s m) at ≡ got (h .what) (h .next))
+  block-is : (f : ℕ) × (blockBody (stmtTag (getD s at 0)) (h .targets) v s (λ m. blockFrom f (h .targets) v s m) at ≡ got (h .what) (h .next))
   unfolding blockFrom
   block-is = go (h .bound) (h .reads)
     where
-      go : (k : ℕ) → blockFrom k (h .blocks) (h .block) v s at ≡ got (h .what) (h .next) → (f : ℕ) × (blockBody (stmtTag (getD s at 0)) (h .blocks) (h .block) v s (λ m. blockFrom f (h .blocks) (h .block) v s m) at ≡ got (h .what) (h .next))
+      go : (k : ℕ) → blockFrom k (h .targets) v s at ≡ got (h .what) (h .next) → (f : ℕ) × (blockBody (stmtTag (getD s at 0)) (h .targets) v s (λ m. blockFrom f (h .targets) v s m) at ≡ got (h .what) (h .next))
       go zero q = absurd (no-got 9 (length s) (h .what) (h .next) q)
       go (suc f) q = (f, q)
 
@@ -44,31 +45,30 @@ module _ (v : ℕ) (s : List ℕ) (at : ℕ) (h : BlockHere v s at) where
   pub block-there : at < length s
   block-there = go (stmtTag (getD s at 0)) (block-is .1)
     where
-      go : (t : StmtTag) → blockBody t (h .blocks) (h .block) v s (λ m. blockFrom (block-is .0) (h .blocks) (h .block) v s m) at ≡ got (h .what) (h .next) → at < length s
+      go : (t : StmtTag) → blockBody t (h .targets) v s (λ m. blockFrom (block-is .0) (h .targets) v s m) at ≡ got (h .what) (h .next) → at < length s
       go setTag q =
-          let w = then-got (setAt v s (at + 1)) (λ x m. one (after x) (λ m. blockFrom (block-is .0) (h .blocks) (h .block) v s m) m) (h .what) (h .next) q in
+          let w = then-got (setAt v s (at + 1)) (λ x m. one (after x) (λ m. blockFrom (block-is .0) (h .targets) v s m) m) (h .what) (h .next) q in
           let u = then-got (variableAt v s (at + 1)) (λ x n. one (Set x) (exprAt depth v s) n) (w .0) (w .1) (w .2) in
           omega (arith, variable-got s (at + 1) v (u .0) (u .1) (u .2) .0)
       go emitTag q =
-          let w = then-got (emitAt v s (at + 1)) (λ x m. one (after x) (λ m. blockFrom (block-is .0) (h .blocks) (h .block) v s m) m) (h .what) (h .next) q in
+          let w = then-got (emitAt v s (at + 1)) (λ x m. one (after x) (λ m. blockFrom (block-is .0) (h .targets) v s m) m) (h .what) (h .next) q in
           let p = one-got Emit (exprAt depth v s) (at + 1) (w .0) (w .1) (w .2) in
           omega (arith, expr-grows depth v s (at + 1) (p .0) (w .1) (p .1) .0)
       go noStmt q =
-          let w = one-got (λ e. record { body = []; ending = e }) (endAt levels (h .blocks) (h .block) v s) at (h .what) (h .next) q in
-          end-there levels v s at (record { blocks = h .blocks; block = h .block; ending = w .0; next = h .next; reads = w .1 }) .0
+          let w = one-got (λ e. record { body = []; ending = e }) (endAt levels (h .targets) v s) at (h .what) (h .next) q in
+          end-there levels v s at (record { targets = h .targets; ending = w .0; next = h .next; reads = w .1 }) .0
 
   -- a statement x stands there, and after it, from n on, the rest of the block
   record Followed (x : Stmt) (n : ℕ) : Type 0 where
     rest : BlockHere v s n
-    blocks : rest .blocks ≡ h .blocks
-    block : rest .block ≡ h .block
+    targets : rest .targets ≡ h .targets
     next : rest .next ≡ h .next
     is : h .what ≡ after x (rest .what)
 
-  followed : (x : Stmt) (n f : ℕ) → one (after x) (λ m. blockFrom f (h .blocks) (h .block) v s m) n ≡ got (h .what) (h .next) → Followed x n
+  followed : (x : Stmt) (n f : ℕ) → one (after x) (λ m. blockFrom f (h .targets) v s m) n ≡ got (h .what) (h .next) → Followed x n
   followed x n f q =
-      let w = one-got (after x) (λ m. blockFrom f (h .blocks) (h .block) v s m) n (h .what) (h .next) q in
-      record { rest = record { bound = f; blocks = h .blocks; block = h .block; what = w .0; next = h .next; reads = w .1 }; blocks = refl; block = refl; next = refl; is = w .2 }
+      let w = one-got (after x) (λ m. blockFrom f (h .targets) v s m) n (h .what) (h .next) q in
+      record { rest = record { bound = f; targets = h .targets; what = w .0; next = h .next; reads = w .1 }; targets = refl; next = refl; is = w .2 }
 
   -- a set
   record SetHere : Type 0 where
@@ -82,8 +82,8 @@ module _ (v : ℕ) (s : List ℕ) (at : ℕ) (h : BlockHere v s at) where
   set-here : getD s at 0 ≡ 0x20 → SetHere
   set-here e =
       let b = block-is in
-      let q : blockBody (stmtTag 0x20) (h .blocks) (h .block) v s (λ m. blockFrom (b .0) (h .blocks) (h .block) v s m) at ≡ got (h .what) (h .next) = rw e at (b .1) in
-      let w = then-got (setAt v s (at + 1)) (λ x m. one (after x) (λ m. blockFrom (b .0) (h .blocks) (h .block) v s m) m) (h .what) (h .next) q in
+      let q : blockBody (stmtTag 0x20) (h .targets) v s (λ m. blockFrom (b .0) (h .targets) v s m) at ≡ got (h .what) (h .next) = rw e at (b .1) in
+      let w = then-got (setAt v s (at + 1)) (λ x m. one (after x) (λ m. blockFrom (b .0) (h .targets) v s m) m) (h .what) (h .next) q in
       let u = then-got (variableAt v s (at + 1)) (λ x n. one (Set x) (exprAt depth v s) n) (w .0) (w .1) (w .2) in
       let k = variable-got s (at + 1) v (u .0) (u .1) (u .2) in
       let p = one-got (Set (u .0)) (exprAt depth v s) (u .1) (w .0) (w .1) (u .3) in
@@ -101,30 +101,29 @@ module _ (v : ℕ) (s : List ℕ) (at : ℕ) (h : BlockHere v s at) where
   emit-here : getD s at 0 ≡ 0x21 → EmitHere
   emit-here e =
       let b = block-is in
-      let q : blockBody (stmtTag 0x21) (h .blocks) (h .block) v s (λ m. blockFrom (b .0) (h .blocks) (h .block) v s m) at ≡ got (h .what) (h .next) = rw e at (b .1) in
-      let w = then-got (emitAt v s (at + 1)) (λ x m. one (after x) (λ m. blockFrom (b .0) (h .blocks) (h .block) v s m) m) (h .what) (h .next) q in
+      let q : blockBody (stmtTag 0x21) (h .targets) v s (λ m. blockFrom (b .0) (h .targets) v s m) at ≡ got (h .what) (h .next) = rw e at (b .1) in
+      let w = then-got (emitAt v s (at + 1)) (λ x m. one (after x) (λ m. blockFrom (b .0) (h .targets) v s m) m) (h .what) (h .next) q in
       let p = one-got Emit (exprAt depth v s) (at + 1) (w .0) (w .1) (w .2) in
       record { value = p .0; end = w .1; reads = p .1; later = rw (p .2) at (followed (w .0) (w .1) (b .0) (w .3)) }
 
   -- the block's ending
-  end-here : (getD s at 0 ≡ 0x20 → ⊥) → (getD s at 0 ≡ 0x21 → ⊥) → (endAt levels (h .blocks) (h .block) v s at ≡ got (h .what .ending) (h .next)) × (h .what .body ≡ [])
+  end-here : (getD s at 0 ≡ 0x20 → ⊥) → (getD s at 0 ≡ 0x21 → ⊥) → (endAt levels (h .targets) v s at ≡ got (h .what .ending) (h .next)) × (h .what .body ≡ [])
   end-here a c =
       let b = block-is in
       let t : stmtTag (getD s at 0) ≡ noStmt = simp (ne-eqb (getD s at 0) 0x20 a, ne-eqb (getD s at 0) 0x21 c) in
-      let w = one-got (λ e. record { body = []; ending = e }) (endAt levels (h .blocks) (h .block) v s) at (h .what) (h .next) (rw t at (b .1)) in
+      let w = one-got (λ e. record { body = []; ending = e }) (endAt levels (h .targets) v s) at (h .what) (h .next) (rw t at (b .1)) in
       let e : h .what .ending ≡ w .0 = ap (λ (k : Block). k .ending) (w .2) in
       (w .1 ∙ ap (λ (x : End). got x (h .next)) (sym e), ap (λ (k : Block). k .body) (w .2))
 
 -- what is read is the same where all that it depends on is
-moved : (v : ℕ) (s : List ℕ) (b b' c c' : ℕ) (e e' : End) (m m' i p : ℕ) → b ≡ b' → c ≡ c' → e ≡ e' → m ≡ m' → i ≡ p → endAt levels b c v s i ≡ got e m → endAt levels b' c' v s p ≡ got e' m'
-moved v s b b' c c' e e' m m' i p h₁ h₂ h₃ h₄ h₅ q = cc
+moved : (v : ℕ) (s : List ℕ) (g g' : Targets) (e e' : End) (m m' i p : ℕ) → g ≡ g' → e ≡ e' → m ≡ m' → i ≡ p → endAt levels g v s i ≡ got e m → endAt levels g' v s p ≡ got e' m'
+moved v s g g' e e' m m' i p h₁ h₂ h₃ h₄ q = cc
 
 -- ---- the run so far
 -- at the place i, with n labels: the statements left give what all of them give
 pub record Rest (v : ℕ) (s : List ℕ) (at : ℕ) (h : BlockHere v s at) (q count : ℕ) (vars labels vars' labels' : List Val) (i n : ℕ) : Type 0 where
   pub here : BlockHere v s i
-  pub blocks : here .blocks ≡ h .blocks
-  pub block : here .block ≡ h .block
+  pub targets : here .targets ≡ h .targets
   pub next : here .next ≡ h .next
   pub ending : here .what .ending ≡ h .what .ending
   pub left : steps q (here .what .body) vars' (take n labels') ≡ steps q (h .what .body) vars (take count labels)
@@ -142,8 +141,7 @@ module _ {v : ℕ} {s : List ℕ} {at : ℕ} {h : BlockHere v s at} {q count : �
       let two : steps q (x ∷ w .rest .what .body) vars' (take n labels') ≡ steps q (w .rest .what .body) env (take k out) = rw e in
       record {
         here = w .rest;
-        blocks = w .blocks ∙ R .blocks;
-        block = w .block ∙ R .block;
+        targets = w .targets ∙ R .targets;
         next = w .next ∙ R .next;
         ending = sym (ap (λ (b : Block). b .ending) (w .is)) ∙ R .ending;
         left = sym (one ∙ two) ∙ R .left;
@@ -239,7 +237,7 @@ module _ {v : ℕ} {s : List ℕ} {at : ℕ} {h : BlockHere v s at} {q count : �
   all-run a c =
       let w = end-here v s i (R .here) a c in
       let none : steps q (R .here .what .body) vars' (take n labels') ≡ on vars' (take n labels') = rw (w .1) in
-      record { way = sym none ∙ R .left; ending = λ p k e. moved v s _ _ _ _ _ _ _ _ i p (R .blocks) (R .block) (R .ending) (R .next) (cc) (w .0); within = R .within; rest = R .stays }
+      record { way = sym none ∙ R .left; ending = λ p k e. moved v s _ _ _ _ _ _ i p (R .targets) (R .ending) (R .next) (cc) (w .0); within = R .within; rest = R .stays }
 
   -- a byte stands there
   pub rest-there : i < length s

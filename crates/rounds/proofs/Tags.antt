@@ -3,7 +3,7 @@ use Prim.Native.Nat.{ℕ, _≤_}
 use native.Mathlib.Omega.{arith}
 use borrow.Author.Tests.{ne-eqb}
 use mathlib.Core.Path.{_≡_}
-use Rattle.paper.specs.Grammar.{badExpr, exprTag, badCond, condTag, badEnd, endTag}
+use Rattle.definitions.specs.Grammar.{badExpr, exprTag, badCond, condTag, badEnd, endTag}
 
 module _ (t : ℕ) where
   pub expr-bad : (1 ≤ t → t ≤ 9 → ⊥) → exprTag t ≡ badExpr

@@ -4,12 +4,12 @@ use mathlib.Core.Path.{_≡_}
 use lib.ListN.{length}
 use mathlib.Core.Bool.{Bool, cond}
 use mathlib.Core.List.{List}
-use Rattle.paper.specs.Values.{Val, Out, value, fault, also, flaw}
-use Rattle.paper.specs.Rule.{Expr, Cond, Case}
-use Rattle.paper.specs.Grammar.{Got, got, refused, then, two, longest}
-use Rattle.paper.specs.Meaning.{eval, holds}
-use Rattle.paper.specs.declared.Kind.the-variants.{OutOfRange}
-use Rattle.paper.specs.declared.Outcome.{Outcome}
+use Rattle.definitions.specs.Values.{Val, Out, value, fault, also, flaw}
+use Rattle.definitions.specs.Rule.{Expr, Cond, Case}
+use Rattle.definitions.specs.Grammar.{Got, got, refused, then, two, longest}
+use Rattle.definitions.specs.Meaning.{eval, holds}
+use Rattle.definitions.specs.declared.Kind.the-variants.{OutOfRange}
+use Rattle.definitions.specs.declared.Outcome.{Outcome}
 use Rattle.rounds.specs.declared.Evaluated.{Evaluated}
 use Rattle.rounds.specs.declared.Held.{Held}
 use Rattle.rounds.specs.declared.Both.{Both}

@@ -5,12 +5,12 @@ use mathlib.Core.Bool.{cond}
 use mathlib.Core.List.{List}
 use lib.Dec.{eqb}
 use lib.ListN.{length, take}
-use Rattle.paper.specs.Values.{Val}
-use Rattle.paper.specs.Rule.{size}
-use Rattle.paper.specs.Grammar.{longest}
-use Rattle.paper.specs.Columns.{flowOf, inputsOf, outputsOf}
-use Rattle.paper.specs.Plan.{maskOf, placeOf, carried}
-use Rattle.paper.specs.Direct.{unfinished, Round, jumped, finished}
+use Rattle.definitions.specs.Values.{Val}
+use Rattle.definitions.specs.Rule.{size}
+use Rattle.definitions.specs.Grammar.{longest}
+use Rattle.definitions.specs.Columns.{flowOf, inputsOf, outputsOf}
+use Rattle.definitions.specs.Plan.{maskOf, placeOf, carried}
+use Rattle.definitions.specs.Direct.{unfinished, Round, jumped, finished}
 use Rattle.columns.specs.OnPlan.{planWalk}
 use Rattle.plans.specs.Accepted.{ruleIn}
 use Rattle.rounds.specs.Run.{Begins}

@@ -4,11 +4,12 @@ use mathlib.Core.Path.{_≡_}
 use mathlib.Core.Bool.{Bool}
 use mathlib.Core.List.{List}
 use lib.ListN.{length, getD, take, drop}
-use Rattle.paper.specs.Values.{Val, Out, value, fault}
-use Rattle.paper.specs.Rule.{End, Block}
-use Rattle.paper.specs.Grammar.{got, endAt, blockFrom, levels}
-use Rattle.paper.specs.Plan.{bitOf}
-use Rattle.paper.specs.Direct.{stopped, faulted, Way, on, ended, steps, Exit, toBlock, toRound, toStop, exit, Round, jumped, finished, leave}
+use Rattle.definitions.specs.Values.{Val, Out, value, fault}
+use Rattle.definitions.specs.Rule.{End, Block}
+use Rattle.definitions.specs.declared.Targets.{Targets}
+use Rattle.definitions.specs.Grammar.{got, endAt, blockFrom, levels}
+use Rattle.definitions.specs.Plan.{bitOf}
+use Rattle.definitions.specs.Direct.{stopped, faulted, Way, on, ended, steps, Exit, toBlock, toRound, toStop, exit, Round, jumped, finished, leave}
 use Rattle.columns.specs.OnPlan.{kept}
 use Rattle.rounds.specs.declared.Left.{Left}
 use Rattle.rounds.specs.declared.Ran.{Ran}
@@ -25,11 +26,10 @@ pub record Begins (s s' : List ℕ) : Type 0 where
 
 -- an ending of some block stands there
 pub record EndHere (left v : ℕ) (s : List ℕ) (at : ℕ) : Type 0 where
-  pub blocks : ℕ
-  pub block : ℕ
+  pub targets : Targets
   pub ending : End
   pub next : ℕ
-  pub reads : endAt left blocks block v s at ≡ got ending next
+  pub reads : endAt left targets v s at ≡ got ending next
 
 -- the answer of the code for each case
 abbrev pub leftOf : Out Exit → Left
@@ -43,11 +43,10 @@ leftOf (fault k) = Left.Fault k
 -- a block, or what is left of one, stands there
 pub record BlockHere (v : ℕ) (s : List ℕ) (at : ℕ) : Type 0 where
   pub bound : ℕ
-  pub blocks : ℕ
-  pub block : ℕ
+  pub targets : Targets
   pub what : Block
   pub next : ℕ
-  pub reads : blockFrom bound blocks block v s at ≡ got what next
+  pub reads : blockFrom bound targets v s at ≡ got what next
 
 -- what the code's answer says, with the variables and labels that it leaves
 abbrev pub wayOf : Ran → List Val → List Val → Way
@@ -62,7 +61,7 @@ countOf (Ran.Ended st k) = k
 -- the statements were run: the way, the ending's place, room for the labels, and the words after them as they were
 pub record Stepped (v : ℕ) (s : List ℕ) (at : ℕ) (h : BlockHere v s at) (q count : ℕ) (vars labels : List Val) (r : Ran) (vars' labels' : List Val) : Type 0 where
   pub way : wayOf r vars' labels' ≡ steps q (h .what .body) vars (take count labels)
-  pub ending : (p k : ℕ) → r ≡ Ran.Ready p k → endAt levels (h .blocks) (h .block) v s p ≡ got (h .what .ending) (h .next)
+  pub ending : (p k : ℕ) → r ≡ Ran.Ready p k → endAt levels (h .targets) v s p ≡ got (h .what .ending) (h .next)
   pub within : countOf r ≤ q
   pub rest : drop (countOf r) labels' ≡ drop (countOf r) labels
 

@@ -4,8 +4,8 @@ use mathlib.Core.Bool.{cond}
 use mathlib.Core.List.{List}
 use lib.Dec.{ltb}
 use lib.ListN.{length, getD}
-use Rattle.paper.specs.Grammar.{ExprTag, constTag, varTag, negTag, caseTag, badExpr, opTag, exprTag}
-use Rattle.paper.specs.Grammar.{CondTag, notTag, badCond, compareTag, joinTag, condTag, EndTag, gotoTag, jumpTag, stopTag, ifTag, badEnd, endTag}
+use Rattle.definitions.specs.Grammar.{ExprTag, constTag, varTag, negTag, caseTag, badExpr, opTag, exprTag}
+use Rattle.definitions.specs.Grammar.{CondTag, notTag, badCond, compareTag, joinTag, condTag, EndTag, gotoTag, jumpTag, stopTag, ifTag, badEnd, endTag}
 
 -- a token: how many bytes it has, its tag among them, and how many expressions, conditions or endings follow it
 pub record Token : Type 0 where

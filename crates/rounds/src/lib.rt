@@ -1,23 +1,23 @@
 // One row's run of a rule: expressions, conditions, statements and endings, worked out from the rule's bytes. Each is called only
 // where the grammar accepts what stands there.
-use paper::Flaw;
-use paper::Outcome;
+use definitions::Flaw;
+use definitions::Outcome;
 ghost use mathlib.Core.Path.{_≡_};
 ghost use Prim.Native.Nat.{_+_, _≤_, _<_};
 ghost use lib.IntN.{pos};
 ghost use lib.ListN.{length, getD};
-ghost use Rattle.paper.specs.Values.{negation};
-ghost use Rattle.paper.specs.Rule.{Join};
-ghost use Rattle.paper.specs.Grammar.{two, constantIn, exprAt, condAt};
-ghost use Rattle.paper.specs.Meaning.{applied};
-ghost use Rattle.paper.specs.Direct.{exit};
+ghost use Rattle.definitions.specs.Values.{negation};
+ghost use Rattle.definitions.specs.Rule.{Join};
+ghost use Rattle.definitions.specs.Grammar.{two, constantIn, exprAt, condAt};
+ghost use Rattle.definitions.specs.Meaning.{applied};
+ghost use Rattle.definitions.specs.Direct.{exit};
 ghost use Rattle.values.specs.Tags.{operatorOf, jointOf};
 ghost use Rattle.rounds.specs.Skip.{tokenOf, past};
 ghost use Rattle.rounds.specs.Answer.{Sized, Stands, placed, valueAt, answer, holding, pairs, answers, picked, caseFrom};
 ghost use Rattle.columns.specs.OnPlan.{kept};
 ghost use Rattle.rounds.specs.Run.{EndHere, leftOf, BlockHere, Stepped, wentOf, Passed};
-ghost use Rattle.paper.specs.Rule.{size};
-ghost use Rattle.paper.specs.Plan.{bitOf, carried};
+ghost use Rattle.definitions.specs.Rule.{size};
+ghost use Rattle.definitions.specs.Plan.{bitOf, carried};
 ghost use Rattle.plans.specs.Accepted.{ruleIn, Accepted};
 ghost use Rattle.rounds.specs.Round.{Lies, Entered, Walked};
 ghost use Rattle.rounds.specs.declared.Evaluated.{Evaluated};
@@ -461,12 +461,11 @@ fn entry_of(plan: &[u8], b: u8) -> Entry
     requires { ⌜ Accepted (now plan) × (b < size (ruleIn (now plan))) ⌝ }
     ensures { λ e. ⌜ Entered (now (plan .entry)) b e ⌝ }
 {
-    let n = plan[3] as usize;
     let at = 6 + 8 * (b as usize);
-    let offset = words::word_at(plan, at) as usize;
-    let place = offset - (2 + 8 * n);
-    let inputs = words::word_at(plan, at + 2);
-    let outputs = words::word_at(plan, at + 4);
+    let offset = buffers::word_at(plan, at) as usize;
+    let place = offset - plans::bodies_at(plan) + 4;
+    let inputs = buffers::word_at(plan, at + 2);
+    let outputs = buffers::word_at(plan, at + 4);
     Entry {
         place,
         inputs,

@@ -8,12 +8,13 @@ use lib.Dec.{ltb, leb, eqb}
 use lib.ListN.{length, getD, length-append, List·getD-append, List·getD-eq-default}
 use lib.Seq.{getD-at}
 use borrow.Author.Tests.{ltb-true, ltb-false, leb-true, eqb-true, eqb-false, not-false}
-use Rattle.paper.specs.Rule.{Stmt, Set, Emit, End, Goto, Jump, Stop, If, Block, Rule, size, blockOf}
-use Rattle.paper.specs.Columns.{reads, looks, endLooks, readFirst, sets, goesTo, leadsTo}
-use Rattle.paper.specs.Grammar.{Got, got, refused, then, one, ahead, anywhere, depth, levels, setAt, emitAt, endAt, endBody, endTag, EndTag, gotoTag, jumpTag, stopTag, ifTag, badEnd}
-use Rattle.paper.specs.Grammar.{StmtTag, setTag, emitTag, noStmt, stmtTag, after, blockBody, blockFrom, between, formIn, variablesIn, argumentsIn, blocksIn, headed, blocksTo, wholeRule, ruleOf}
+use Rattle.definitions.specs.Rule.{Stmt, Set, Emit, End, Goto, Jump, Stop, If, Block, Rule, size, blockOf}
+use Rattle.definitions.specs.Columns.{reads, looks, endLooks, readFirst, sets, goesTo, jumpsTo}
+use Rattle.definitions.specs.Grammar.{Got, got, refused, then, one, mayGoto, mayJump, targetsOf, depth, levels, setAt, emitAt, endAt, endBody, endTag, EndTag, gotoTag, jumpTag, stopTag, ifTag, badEnd}
+use Rattle.definitions.specs.Grammar.{StmtTag, setTag, emitTag, noStmt, stmtTag, after, blockBody, blockFrom, between, formIn, variablesIn, argumentsIn, blocksIn, headed, blocksTo, wholeRule, ruleOf}
+use Rattle.definitions.specs.declared.Targets.{Targets}
 use Rattle.rules.specs.Readings.{stmtAt, stmtBody}
-use Rattle.rules.specs.Accepted.{Below, ExprIn, CondIn, StmtIn, BodyIn, EndIn, BlockIn, noBlock, RuleIn}
+use Rattle.rules.specs.Accepted.{Below, ExprIn, CondIn, StmtIn, BodyIn, Ahead, EndIn, BlockIn, noBlock, RuleIn}
 use Rattle.rules.proofs.Sound.{Sound, both, nothing, single, earlier, refusal, found, next, made, pair, tagged, choice, tested, deep, variable-sound, expr-sound, cond-sound, sound-got}
 
 -- both tests pass
@@ -54,50 +55,50 @@ read-first-in v (Set x a ∷ xs) e h g = both (λ k. k < v) (reads a) (λ k. not
 read-first-in v (Emit a ∷ xs) e h g = both (λ k. k < v) (reads a) (readFirst xs e) (h .0) (read-first-in v xs e (h .1) g)
 
 -- ---- endings
-module _ (n b v : ℕ) where
+module _ (ts : Targets) (v : ℕ) where
   abbrev In : End → Type 0
-  In = EndIn n b v
+  In = EndIn ts v
 
-  goto-in : (t : ℕ) → (b < t) × (t < n) → In (Goto t)
-  unfolding endLooks leadsTo goesTo
-  goto-in t h = record { variables-exist = nothing (λ k. k < v); targets-exist = single (λ u. u < n) t (h .1); gotos-rise = single (λ u. b < u) t (h .0) }
+  goto-in : (t : ℕ) → Ahead ts t → In (Goto t)
+  unfolding endLooks jumpsTo goesTo
+  goto-in t h = record { variables-exist = nothing (λ k. k < v); gotos-in = single (Ahead ts) t h; jumps-in = nothing (λ u. u < ts .blocks) }
 
-  jump-in : (t : ℕ) → t < n → In (Jump t)
-  unfolding endLooks leadsTo goesTo
-  jump-in t h = record { variables-exist = nothing (λ k. k < v); targets-exist = single (λ u. u < n) t h; gotos-rise = nothing (λ u. b < u) }
+  jump-in : (t : ℕ) → t < ts .blocks → In (Jump t)
+  unfolding endLooks jumpsTo goesTo
+  jump-in t h = record { variables-exist = nothing (λ k. k < v); gotos-in = nothing (Ahead ts); jumps-in = single (λ u. u < ts .blocks) t h }
 
   stop-in : In Stop
-  unfolding endLooks leadsTo goesTo
-  stop-in = record { variables-exist = nothing (λ k. k < v); targets-exist = nothing (λ u. u < n); gotos-rise = nothing (λ u. b < u) }
+  unfolding endLooks jumpsTo goesTo
+  stop-in = record { variables-exist = nothing (λ k. k < v); gotos-in = nothing (Ahead ts); jumps-in = nothing (λ u. u < ts .blocks) }
 
   if-in : (c : _) → CondIn v c → (x y : End) → In x → In y → In (If c x y)
-  unfolding endLooks leadsTo goesTo
+  unfolding endLooks jumpsTo goesTo
   if-in c h x y f g = record {
     variables-exist = both (λ k. k < v) (looks c) _ h (both (λ k. k < v) (endLooks x) (endLooks y) (f .variables-exist) (g .variables-exist));
-    targets-exist = both (λ u. u < n) (leadsTo x) (leadsTo y) (f .targets-exist) (g .targets-exist);
-    gotos-rise = both (λ u. b < u) (goesTo x) (goesTo y) (f .gotos-rise) (g .gotos-rise);
+    gotos-in = both (Ahead ts) (goesTo x) (goesTo y) (f .gotos-in) (g .gotos-in);
+    jumps-in = both (λ u. u < ts .blocks) (jumpsTo x) (jumpsTo y) (f .jumps-in) (g .jumps-in);
   }
 
   module _ (s : List ℕ) where
-    end-body : (E : ℕ → Got End) → ((m : ℕ) → Sound In m (length s) (E m)) → (at : ℕ) → at < length s → (t : EndTag) → Sound In at (length s) (endBody t n b v s E at)
+    end-body : (E : ℕ → Got End) → ((m : ℕ) → Sound In m (length s) (E m)) → (at : ℕ) → at < length s → (t : EndTag) → Sound In at (length s) (endBody t ts v s E at)
     end-body E g at h gotoTag =
-        earlier (length s) In at (at + 1) _ (omega arith) (made (length s) (λ t. (b < t) × (t < n)) In Goto goto-in (at + 1) _
-        (tested s _ (ahead n b) 7 (at + 1) (omega arith) (omega arith) (λ t e. let q = passed (ltb b t) (ltb t n) e in (ltb-true b t (q .0), ltb-true t n (q .1)))))
-    end-body E g at h jumpTag = earlier (length s) In at (at + 1) _ (omega arith) (made (length s) (λ t. t < n) In Jump jump-in (at + 1) _ (tested s _ (anywhere n) 7 (at + 1) (omega arith) (omega arith) (λ t e. ltb-true t n e)))
+        earlier (length s) In at (at + 1) _ (omega arith) (made (length s) (Ahead ts) In Goto goto-in (at + 1) _
+        (tested s _ (mayGoto ts) 7 (at + 1) (omega arith) (omega arith) (λ t e. let q = passed (leb (ts .lowest) t) (ltb t (ts .blocks)) e in (leb-true (ts .lowest) t (q .0), ltb-true t (ts .blocks) (q .1)))))
+    end-body E g at h jumpTag = earlier (length s) In at (at + 1) _ (omega arith) (made (length s) (λ t. t < ts .blocks) In Jump jump-in (at + 1) _ (tested s _ (mayJump ts) 7 (at + 1) (omega arith) (omega arith) (λ t e. ltb-true t (ts .blocks) e)))
     end-body E g at h stopTag = found (length s) In at Stop (at + 1) (omega arith) (omega arith) stop-in
     end-body E g at h ifTag =
         earlier (length s) In at (at + 1) _ (omega arith) (next (length s) (CondIn v) In (at + 1) _ _ (cond-sound depth v s (at + 1)) (λ c m l u i.
         earlier (length s) In (at + 1) m _ (omega arith) (pair (length s) In In (If c) (if-in c i) E g m)))
     end-body E g at h badEnd = refusal (length s) In at 5 at (omega arith) (omega arith) (omega arith)
 
-    pub end-sound : (d at : ℕ) → Sound In at (length s) (endAt d n b v s at)
+    pub end-sound : (d at : ℕ) → Sound In at (length s) (endAt d ts v s at)
     unfolding endAt
     end-sound zero at = deep In s at
-    end-sound (suc d) at = tagged s In at (λ t. endBody (endTag t) n b v s (λ m. endAt d n b v s m) at) (λ h. end-body (λ m. endAt d n b v s m) (λ m. end-sound d m) at h (endTag (getD s at 0)))
+    end-sound (suc d) at = tagged s In at (λ t. endBody (endTag t) ts v s (λ m. endAt d ts v s m) at) (λ h. end-body (λ m. endAt d ts v s m) (λ m. end-sound d m) at h (endTag (getD s at 0)))
 
     -- ---- blocks
     abbrev Whole : Block → Type 0
-    Whole = BlockIn n b v
+    Whole = BlockIn ts v
 
     one-more : (x : Stmt) (y : Block) → StmtIn v x → Whole y → Whole (after x y)
     one-more x y h g = record { body-in = (h, g .body-in); ending-in = g .ending-in }
@@ -109,36 +110,36 @@ module _ (n b v : ℕ) where
           earlier (length s) Whole at (at + 1) _ (omega arith) (next (length s) (StmtIn v) Whole (at + 1) p _ h (λ x m l u i.
           earlier (length s) Whole (at + 1) m _ (omega arith) (made (length s) Whole Whole (after x) (λ y j. one-more x y i j) m _ (g m))))
 
-      block-body : (at : ℕ) (t : StmtTag) → Sound Whole at (length s) (blockBody t n b v s B at)
+      block-body : (at : ℕ) (t : StmtTag) → Sound Whole at (length s) (blockBody t ts v s B at)
       block-body at setTag = further at (setAt v s (at + 1)) (set-sound v s (at + 1))
       block-body at emitTag = further at (emitAt v s (at + 1)) (emit-sound v s (at + 1))
       block-body at noStmt = made (length s) In Whole _ (λ e i. record { body-in = tt; ending-in = i }) at _ (end-sound levels at)
 
-    pub block-sound : (f at : ℕ) → Sound Whole at (length s) (blockFrom f n b v s at)
+    pub block-sound : (f at : ℕ) → Sound Whole at (length s) (blockFrom f ts v s at)
     unfolding blockFrom
     block-sound zero at = refusal (length s) Whole at 9 (length s) (omega arith) (omega arith) (omega arith)
-    block-sound (suc f) at = block-body (λ m. blockFrom f n b v s m) (λ m. block-sound f m) at (stmtTag (getD s at 0))
+    block-sound (suc f) at = block-body (λ m. blockFrom f ts v s m) (λ m. block-sound f m) at (stmtTag (getD s at 0))
 
 -- ---- rules
 -- the first k blocks; past them stands a block that only stops
 pub record First (n v k : ℕ) (bs : List Block) : Type 0 where
   pub count : length bs ≡ k
-  pub each : (b : ℕ) → BlockIn n b v (getD bs b noBlock)
+  pub each : (b : ℕ) → BlockIn (targetsOf n b) v (getD bs b noBlock)
 
 module _ (n v : ℕ) where
-  past-in : (b : ℕ) → BlockIn n b v noBlock
-  past-in b = record { body-in = tt; ending-in = stop-in n b v }
+  past-in : (b : ℕ) → BlockIn (targetsOf n b) v noBlock
+  past-in b = record { body-in = tt; ending-in = stop-in (targetsOf n b) v }
 
   first-none : First n v 0 []
   first-none = record { count = refl; each = past-in }
 
-  first-more : (k : ℕ) (bs : List Block) (x : Block) → First n v k bs → BlockIn n k v x → First n v (suc k) (bs ++ (x ∷ []))
+  first-more : (k : ℕ) (bs : List Block) (x : Block) → First n v k bs → BlockIn (targetsOf n k) v x → First n v (suc k) (bs ++ (x ∷ []))
   first-more k bs x f g = record { count = long; each = λ b. go b (ltb b k) (eqb b k) refl refl }
     where
       long : length (bs ++ (x ∷ [])) ≡ suc k
       long = let h = f .count in simp length-append (omega arith)
 
-      go : (b : ℕ) (p q : Bool) → ltb b k ≡ p → eqb b k ≡ q → BlockIn n b v (getD (bs ++ (x ∷ [])) b noBlock)
+      go : (b : ℕ) (p q : Bool) → ltb b k ≡ p → eqb b k ≡ q → BlockIn (targetsOf n b) v (getD (bs ++ (x ∷ [])) b noBlock)
       go b true q e i = let l = ltb-true b k e in let h = f .count in rw (List·getD-append bs (x ∷ []) _ b (omega arith)) (f .each b)
       go b false true e i = let h = f .count in rw (eqb-true b k i, getD-at bs x [] _ k h) g
       go b false false e i = let l = ltb-false b k e in let d = eqb-false b k i in let m = long in rw (List·getD-eq-default (bs ++ (x ∷ [])) _ {n = b} (omega arith)) (past-in b)
@@ -149,7 +150,7 @@ module _ (n v : ℕ) where
     blocks-sound zero = found (length s) (First n v 0) 3 [] 4 (omega arith) there first-none
     blocks-sound (suc k) =
         next (length s) (First n v k) (First n v (suc k)) 3 (blocksTo n v s k) _ (blocks-sound k) (λ bs at l u h.
-        earlier (length s) (First n v (suc k)) 3 at _ (omega arith) (made (length s) (BlockIn n k v) (First n v (suc k)) (λ x. bs ++ (x ∷ [])) (λ x g. first-more k bs x h g) at _ (block-sound n k v s (length s) at)))
+        earlier (length s) (First n v (suc k)) 3 at _ (omega arith) (made (length s) (BlockIn (targetsOf n k) v) (First n v (suc k)) (λ x. bs ++ (x ∷ [])) (λ x g. first-more k bs x h g) at _ (block-sound (targetsOf n k) v s (length s) at)))
 
 -- a test that holds where its opposite fails
 holds : (low high x : ℕ) → not (between low high x) ≡ false → (low ≤ x) × (x ≤ high)
@@ -194,11 +195,14 @@ module _ (s : List ℕ) where
     pub rule-in : RuleIn s r
     rule-in = sound-got Good 3 (length s) (ruleOf s) rule-sound r n e .2
 
-    pub targets-exist : (b t : ℕ) → leadsTo (blockOf r b .ending) t ≡ true → t < size r
-    targets-exist b t h = rule-in .block-in b .ending-in .targets-exist t h
+    pub gotos-exist : (b t : ℕ) → goesTo (blockOf r b .ending) t ≡ true → t < size r
+    gotos-exist b t h = rule-in .block-in b .ending-in .gotos-in t h .1
+
+    pub jumps-exist : (b t : ℕ) → jumpsTo (blockOf r b .ending) t ≡ true → t < size r
+    jumps-exist b t h = rule-in .block-in b .ending-in .jumps-in t h
 
     pub gotos-rise : (b t : ℕ) → goesTo (blockOf r b .ending) t ≡ true → b < t
-    gotos-rise b t h = rule-in .block-in b .ending-in .gotos-rise t h
+    gotos-rise b t h = omega (arith, rule-in .block-in b .ending-in .gotos-in t h .0)
 
     pub reads-exist : (b k : ℕ) → readFirst (blockOf r b .body) (blockOf r b .ending) k ≡ true → k < r .variables
     reads-exist b k h = read-first-in (r .variables) (blockOf r b .body) (blockOf r b .ending) (rule-in .block-in b .body-in) (rule-in .block-in b .ending-in .variables-exist) k h

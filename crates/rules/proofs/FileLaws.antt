@@ -6,14 +6,14 @@ use native.Mathlib.Omega.{arith}
 use lib.ListN.{length, take, drop}
 use lib.Seq.{take-append-seam}
 use borrow.Author.Tests.{lt-ltb, le-ltb}
-use Rattle.words.specs.Words.{over}
-use Rattle.words.proofs.Laws.{over-start}
-use Rattle.paper.specs.Grammar.{Got, got, refused, readOf, ruleOf, longest}
-use Rattle.paper.specs.Pages.{fileOf, unpacked, pagesFor}
-use Rattle.paper.specs.Calls.{refusal, toRead, toWrite, replyIn, bytesIn, Wrote}
-use Rattle.paper.specs.declared.Refusal.{Refusal}
-use Rattle.paper.specs.declared.Read.the-variants as read
-use Rattle.paper.specs.declared.Reply.the-variants.{Done, Refused}
+use Rattle.buffers.specs.Words.{over}
+use Rattle.buffers.proofs.Laws.{over-start}
+use Rattle.definitions.specs.Grammar.{Got, got, refused, readOf, ruleOf, longest}
+use Rattle.definitions.specs.Pages.{pageSize, pagesFor, fileOf, unpacked}
+use Rattle.definitions.specs.Calls.{refusal, toRead, toWrite, replyIn, bytesIn, Wrote}
+use Rattle.definitions.specs.declared.Refusal.{Refusal}
+use Rattle.definitions.specs.declared.Read.the-variants as read
+use Rattle.definitions.specs.declared.Reply.the-variants.{Done, Refused}
 use Rattle.pages.specs.Answers.{scanOf}
 use Rattle.pages.proofs.Writing.{length-file}
 use Rattle.pages.proofs.Reading.{scan-got, scan-refused}
@@ -109,12 +109,14 @@ module _ (s : List ℕ) where
     unfolding toWrite
     write-good m e = rw (le-ltb longest (length s) short, read-got (ruleOf s) m e .1)
 
-    pub write-size : (m : ℕ) → readOf (ruleOf s) ≡ read.Next m → Done (pagesFor (length s) * 512) ≡ scanOf (toWrite s)
-    unfolding scanOf
-    write-size m e = rw (write-good m e) (ap Done (sym (length-file s)))
+    -- size is what `pages::file_size` gives
+    module _ (size : ℕ) (is : size ≡ pagesFor (length s) * pageSize) where
+      pub write-size : (m : ℕ) → readOf (ruleOf s) ≡ read.Next m → Done size ≡ scanOf (toWrite s)
+      unfolding scanOf
+      write-size m e = rw (write-good m e) (ap Done (is ∙ sym (length-file s)))
 
-    pub write-all : (m : ℕ) → readOf (ruleOf s) ≡ read.Next m → (old new : List ℕ) → pagesFor (length s) * 512 ≤ length old
-        → new ≡ fileOf s ++ drop (pagesFor (length s) * 512) old → Wrote (toWrite s) old (Done (pagesFor (length s) * 512)) new
-    unfolding bytesIn
-    write-all m e old new h w =
-        wrote-all (toWrite s) old _ (write-size m e) new h (w ∙ rw (write-good m e, ← length-file s) (sym (over-start old (fileOf s))))
+      pub write-all : (m : ℕ) → readOf (ruleOf s) ≡ read.Next m → (old new : List ℕ) → size ≤ length old
+          → new ≡ fileOf s ++ drop (pagesFor (length s) * pageSize) old → Wrote (toWrite s) old (Done size) new
+      unfolding bytesIn
+      write-all m e old new h w =
+          wrote-all (toWrite s) old _ (write-size m e) new h (w ∙ rw (write-good m e, ← length-file s) (sym (over-start old (fileOf s))))

@@ -9,13 +9,13 @@ use mathlib.Core.List.{List}
 use lib.Dec.{ltb, eqb, eqb·suc-zero}
 use lib.ListN.{length, getD}
 use borrow.Author.Tests.{ltb-true, eqb-true, eqb-false, ne-eqb}
-use Rattle.paper.specs.Rule.{Operator, Add, Subtract, Multiply, Divide, Remainder, Relation, Less, Equal, Joint, And, Or}
-use Rattle.paper.specs.Rule.{Expr, Cond, Const, Var, Neg, Op, Case, Compare, Not, Join}
-use Rattle.paper.specs.Grammar.{Got, got, refused, then, readOf, byteAt, one, two, constantAt, variableAt, exprAt, condAt, exprBody, condBody, exprTag, condTag}
-use Rattle.paper.specs.Grammar.{ExprTag, constTag, varTag, negTag, caseTag, badExpr, opTag, CondTag, notTag, badCond, compareTag, joinTag}
-use Rattle.paper.specs.declared.Refusal.{Refusal}
-use Rattle.paper.specs.declared.Read.{Read}
-use Rattle.paper.specs.declared.Read.the-variants.{Next, Refused}
+use Rattle.definitions.specs.Rule.{Operator, Add, Subtract, Multiply, Divide, Remainder, Relation, Less, Equal, Joint, And, Or}
+use Rattle.definitions.specs.Rule.{Expr, Cond, Const, Var, Neg, Op, Case, Compare, Not, Join}
+use Rattle.definitions.specs.Grammar.{Got, got, refused, then, readOf, byteAt, one, two, constantAt, variableAt, exprAt, condAt, exprBody, condBody, exprTag, condTag}
+use Rattle.definitions.specs.Grammar.{ExprTag, constTag, varTag, negTag, caseTag, badExpr, opTag, CondTag, notTag, badCond, compareTag, joinTag}
+use Rattle.definitions.specs.declared.Refusal.{Refusal}
+use Rattle.definitions.specs.declared.Read.{Read}
+use Rattle.definitions.specs.declared.Read.the-variants.{Next, Refused}
 use Rattle.rules.specs.Readings.{tagAt, dueOf, second}
 use Rattle.rules.specs.declared.exprs.Due.the-variants as due
 

@@ -10,14 +10,14 @@ use lib.Dec.{ltb}
 use lib.ListN.{length, take, drop}
 use lib.Seq.{take-append-seam, drop-append-seam}
 use borrow.Author.Tests.{ltb-true, ltb-false, lt-ltb, le-ltb}
-use Rattle.paper.specs.Rule.{Rule}
-use Rattle.paper.specs.Grammar.{Got, got, refused, then, readOf, ruleOf, longest}
-use Rattle.paper.specs.Plan.{endOf}
-use Rattle.paper.specs.Pages.{pagesFor, fileOf, unpacked}
-use Rattle.paper.specs.Calls.{refusal, left, toRead, toWrite, replyIn, bytesIn, Wrote}
-use Rattle.paper.specs.declared.Refusal.{Refusal}
-use Rattle.paper.specs.declared.Reply.{Reply}
-use Rattle.paper.specs.declared.Reply.the-variants.{Done, Refused}
+use Rattle.definitions.specs.Rule.{Rule}
+use Rattle.definitions.specs.Grammar.{Got, got, refused, then, readOf, ruleOf, longest}
+use Rattle.definitions.specs.Plan.{endOf}
+use Rattle.definitions.specs.Pages.{pagesFor, fileOf, unpacked}
+use Rattle.definitions.specs.Calls.{refusal, left, toRead, toWrite, replyIn, bytesIn, Wrote}
+use Rattle.definitions.specs.declared.Refusal.{Refusal}
+use Rattle.definitions.specs.declared.Reply.{Reply}
+use Rattle.definitions.specs.declared.Reply.the-variants.{Done, Refused}
 use Rattle.pages.proofs.Refusals.{refuses, refused-only}
 use Rattle.pages.proofs.Trip.{Bytes, write-read, read-write}
 use Rattle.rules.specs.Replies.{Make, OfRule, bad, short, done, OfFile, page, holds, ToRead, ToWrite, long, may}

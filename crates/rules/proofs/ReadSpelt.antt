@@ -7,14 +7,15 @@ use mathlib.Core.List.{List, [], _∷_, _++_, append-assoc}
 use lib.Dec.{ltb, leb}
 use lib.ListN.{length, getD}
 use borrow.Author.Tests.{ltb-true, leb-true}
-use Rattle.paper.specs.Values.{Val}
-use Rattle.paper.specs.Rule.{Expr, Cond, Const, Var, Neg, Op, Case, Compare, Not, Join, Stmt, Set, Emit, End, Goto, Jump, If, Block}
-use Rattle.paper.specs.Grammar.{Got, got, refused, then, byteAt, one, two, constantIn, constantAt, wordOf, variableAt, targetAt, ahead, anywhere, exprAt, condAt, exprBody, condBody, exprTag, condTag}
-use Rattle.paper.specs.Grammar.{ExprTag, constTag, varTag, negTag, caseTag, badExpr, opTag, CondTag, notTag, badCond, compareTag, joinTag, StmtTag, setTag, emitTag, noStmt, stmtTag, EndTag, gotoTag, jumpTag, stopTag, ifTag, badEnd, endTag}
-use Rattle.paper.specs.Grammar.{endBody, endAt, depth, levels, setAt, emitAt, after, blockBody, blockFrom, blockAt, blocksTo}
-use Rattle.paper.specs.Spelling.{constantBytes, le32, operatorByte, relationByte, jointByte, exprBytes, condBytes, stmtBytes, endBytes, inTurn, blockBytes}
-use Rattle.paper.specs.Limits.{exprDepth, condDepth, endDepth, InRange, ExprKeeps, CondKeeps, StmtKeeps, EndKeeps, Every, BlockKeeps}
-use Rattle.paper.proofs.Tests.{and-parts}
+use Rattle.definitions.specs.Values.{Val}
+use Rattle.definitions.specs.Rule.{Expr, Cond, Const, Var, Neg, Op, Case, Compare, Not, Join, Stmt, Set, Emit, End, Goto, Jump, If, Block}
+use Rattle.definitions.specs.declared.Targets.{Targets}
+use Rattle.definitions.specs.Grammar.{Got, got, refused, then, byteAt, one, two, constantIn, constantAt, wordOf, variableAt, targetAt, mayGoto, mayJump, targetsOf, exprAt, condAt, exprBody, condBody, exprTag, condTag}
+use Rattle.definitions.specs.Grammar.{ExprTag, constTag, varTag, negTag, caseTag, badExpr, opTag, CondTag, notTag, badCond, compareTag, joinTag, StmtTag, setTag, emitTag, noStmt, stmtTag, EndTag, gotoTag, jumpTag, stopTag, ifTag, badEnd, endTag}
+use Rattle.definitions.specs.Grammar.{endBody, endAt, depth, levels, setAt, emitAt, after, blockBody, blockFrom, blockAt, blocksTo}
+use Rattle.definitions.specs.Spelling.{constantBytes, le32, operatorByte, relationByte, jointByte, exprBytes, condBytes, stmtBytes, endBytes, inTurn, blockBytes}
+use Rattle.definitions.specs.Limits.{exprDepth, condDepth, endDepth, InRange, ExprKeeps, CondKeeps, StmtKeeps, EndKeeps, Every, BlockKeeps}
+use Rattle.definitions.proofs.Tests.{and-parts}
 use Rattle.pages.proofs.Trip.{Bytes}
 use Rattle.rules.specs.Readings.{isStmt, begins}
 use Rattle.rules.proofs.BlockLaws.{begins-there}
@@ -160,26 +161,29 @@ module _ (s : List ℕ) where
       target-read allowed h at = tested-read (λ t. t < n) allowed 7 at h
 
       module _ (b : ℕ) where
-        end-body : (d at : ℕ) → at < length s → (E : ℕ → Got End) → ((m : ℕ) → ReadAs (ends d) m (E m)) → (t : EndTag) → EndByte (getD s at 0) t → ReadAs (ends (suc d)) at (endBody t n b v s E at)
+        abbrev ts : Targets
+        ts = targetsOf n b
+
+        end-body : (d at : ℕ) → at < length s → (E : ℕ → Got End) → ((m : ℕ) → ReadAs (ends d) m (E m)) → (t : EndTag) → EndByte (getD s at 0) t → ReadAs (ends (suc d)) at (endBody t ts v s E at)
         unfolding endBytes endDepth EndKeeps
         end-body d at there E h gotoTag e =
-            one-more (byteOf (λ t. t < n)) (ends (suc d)) at Goto (0x30 ∷ []) (at + 1) (targetAt (ahead n b) s (at + 1)) (there, e, refl) (λ t. refl) (λ t k. (omega arith, k))
-            (target-read (ahead n b) (λ t p. ltb-true t n (and-parts (ltb b t) (ltb t n) p .1)) (at + 1))
+            one-more (byteOf (λ t. t < n)) (ends (suc d)) at Goto (0x30 ∷ []) (at + 1) (targetAt (mayGoto ts) s (at + 1)) (there, e, refl) (λ t. refl) (λ t k. (omega arith, k))
+            (target-read (mayGoto ts) (λ t p. ltb-true t n (and-parts (leb (ts .lowest) t) (ltb t n) p .1)) (at + 1))
         end-body d at there E h jumpTag e =
-            one-more (byteOf (λ t. t < n)) (ends (suc d)) at Jump (0x31 ∷ []) (at + 1) (targetAt (anywhere n) s (at + 1)) (there, e, refl) (λ t. refl) (λ t k. (omega arith, k))
-            (target-read (anywhere n) (λ t p. ltb-true t n p) (at + 1))
+            one-more (byteOf (λ t. t < n)) (ends (suc d)) at Jump (0x31 ∷ []) (at + 1) (targetAt (mayJump ts) s (at + 1)) (there, e, refl) (λ t. refl) (λ t k. (omega arith, k))
+            (target-read (mayJump ts) (λ t p. ltb-true t n p) (at + 1))
         end-body d at there E h stopTag e = ((omega arith, tt), (there, e, refl))
         end-body d at there E h ifTag e =
             if-then _ _ (condAt depth v s (at + 1)) _ (cond-read depth (at + 1)) (λ c m j.
             two-more (ends d) (ends (suc d)) at (If c) (0x33 ∷ condBytes c) m E (there, e, j .1) (λ x y. refl) (λ x y k l. (omega (arith, k .0, l .0), (j .0 .0, j .0 .1, k .1, l .1))) h)
         end-body d at there E h badEnd e = tt
 
-        end-read : (d at : ℕ) → ReadAs (ends d) at (endAt d n b v s at)
+        end-read : (d at : ℕ) → ReadAs (ends d) at (endAt d ts v s at)
         unfolding endAt
         end-read zero at = tag-read (ends 0) at (λ t. refused 8 at) (λ l. tt)
         end-read (suc d) at =
-            tag-read (ends (suc d)) at (λ t. endBody (endTag t) n b v s (λ m. endAt d n b v s m) at)
-            (λ l. end-body d at l (λ m. endAt d n b v s m) (λ m. end-read d m) (endTag (getD s at 0)) (end-byte (getD s at 0)))
+            tag-read (ends (suc d)) at (λ t. endBody (endTag t) ts v s (λ m. endAt d ts v s m) at)
+            (λ l. end-body d at l (λ m. endAt d ts v s m) (λ m. end-read d m) (endTag (getD s at 0)) (end-byte (getD s at 0)))
 
         -- ---- statements and blocks
         set-read : (at : ℕ) → at < length s → getD s at 0 ≡ 0x20 → ReadAs stmts at (setAt v s (at + 1))
@@ -201,18 +205,18 @@ module _ (s : List ℕ) where
               one-more blocks blocks at (after x) (stmtBytes x) m (B m) (j .1) (λ y. append-assoc (stmtBytes x) (inTurn stmtBytes (y .body)) (endBytes (y .ending)))
               (λ y k. record { body-keeps = (j .0, k .body-keeps); ending-keeps = k .ending-keeps; ending-deep = k .ending-deep }) (h m))
 
-          block-body : (t : StmtTag) → StmtByte (getD s at 0) t → ReadAs blocks at (blockBody t n b v s B at)
+          block-body : (t : StmtTag) → StmtByte (getD s at 0) t → ReadAs blocks at (blockBody t ts v s B at)
           unfolding blockBytes inTurn Every begins
           block-body setTag e = further (setAt v s (at + 1)) (set-read at (begins-there s at (ap (λ (t : ℕ). isStmt (stmtTag t)) e)) e)
           block-body emitTag e = further (emitAt v s (at + 1)) (emit-read at (begins-there s at (ap (λ (t : ℕ). isStmt (stmtTag t)) e)) e)
           block-body noStmt e =
-              one-more (ends levels) blocks at (λ (x : End). record { body = []; ending = x }) [] at (endAt levels n b v s at) refl (λ x. refl)
+              one-more (ends levels) blocks at (λ (x : End). record { body = []; ending = x }) [] at (endAt levels ts v s at) refl (λ x. refl)
               (λ x k. record { body-keeps = tt; ending-keeps = k .1; ending-deep = k .0 }) (end-read levels at)
 
-        block-read : (f at : ℕ) → ReadAs blocks at (blockFrom f n b v s at)
+        block-read : (f at : ℕ) → ReadAs blocks at (blockFrom f ts v s at)
         unfolding blockFrom
         block-read zero at = tt
-        block-read (suc f) at = block-body (λ m. blockFrom f n b v s m) (λ m. block-read f m) at (stmtTag (getD s at 0)) (stmt-byte (getD s at 0))
+        block-read (suc f) at = block-body (λ m. blockFrom f ts v s m) (λ m. block-read f m) at (stmtTag (getD s at 0)) (stmt-byte (getD s at 0))
 
       -- ---- the first blocks of a rule
       blocks-read : (k : ℕ) → ReadAs allBlocks 4 (blocksTo n v s k)
@@ -220,7 +224,7 @@ module _ (s : List ℕ) where
       blocks-read zero = (tt, refl)
       blocks-read (suc k) =
           if-then _ _ (blocksTo n v s k) _ (blocks-read k) (λ bs m j.
-          one-more blocks allBlocks 4 (λ x. bs ++ (x ∷ [])) (inTurn blockBytes bs) m (blockAt n k v s m) (j .1) (in-turn-last blockBytes bs) (λ x k. every-append (BlockKeeps n v) bs (x ∷ []) (j .0) (k, tt)) (block-read k (length s) m))
+          one-more blocks allBlocks 4 (λ x. bs ++ (x ∷ [])) (inTurn blockBytes bs) m (blockAt (targetsOf n k) v s m) (j .1) (in-turn-last blockBytes bs) (λ x k. every-append (BlockKeeps n v) bs (x ∷ []) (j .0) (k, tt)) (block-read k (length s) m))
 
       pub blocks-spelt : (k : ℕ) (bs : List Block) (m : ℕ) → blocksTo n v s k ≡ got bs m → Every (BlockKeeps n v) bs × Spelt s 4 (inTurn blockBytes bs) m
       blocks-spelt k bs m e = rw e at (blocks-read k)

@@ -9,33 +9,38 @@ use mathlib.Core.List.{List, [], _∷_, _++_}
 use lib.Dec.{ltb, leb, eqb}
 use lib.ListN.{length}
 use borrow.Author.Tests.{ltb-false, lt-ltb, le-ltb}
-use Rattle.paper.specs.Rule.{Block}
-use Rattle.paper.specs.Grammar.{Got, got, refused, then, readOf, one, between, blockAt, blocksTo, formIn, variablesIn, argumentsIn, blocksIn, headed, wholeRule, ruleOf}
-use Rattle.paper.specs.declared.Refusal.{Refusal}
-use Rattle.paper.specs.declared.Read.{Read}
-use Rattle.paper.specs.declared.Read.the-variants.{Next, Refused}
+use Rattle.definitions.specs.Rule.{Block}
+use Rattle.definitions.specs.Grammar.{Got, got, refused, then, readOf, one, between, targetsOf, blockAt, blocksTo, formIn, variablesIn, argumentsIn, blocksIn, headed, wholeRule, ruleOf}
+use Rattle.definitions.specs.declared.Targets.{Targets}
+use Rattle.definitions.specs.declared.Refusal.{Refusal}
+use Rattle.definitions.specs.declared.Read.{Read}
+use Rattle.definitions.specs.declared.Read.the-variants.{Next, Refused}
 use Rattle.rules.specs.Readings.{headerAt}
 use Rattle.rules.proofs.Laws.{goes, stays, then-one}
 
 -- ---- blocks
 module _ (n v : ℕ) (s : List ℕ) where
   -- one more block, as the reader goes
-  next-block : (k : ℕ) → readOf (blocksTo n v s (suc k)) ≡ readOf (then (blocksTo n v s k) (λ _ at. blockAt n k v s at))
+  next-block : (k : ℕ) → readOf (blocksTo n v s (suc k)) ≡ readOf (then (blocksTo n v s k) (λ _ at. blockAt (targetsOf n k) v s at))
   unfolding blocksTo
-  next-block k = then-one (λ bs b. bs ++ (b ∷ [])) (blocksTo n v s k) (blockAt n k v s)
+  next-block k = then-one (λ bs b. bs ++ (b ∷ [])) (blocksTo n v s k) (blockAt (targetsOf n k) v s)
 
-  pub blocks-next : (k at m : ℕ) → readOf (blocksTo n v s k) ≡ Next at → readOf (blockAt n k v s at) ≡ Next m → readOf (blocksTo n v s (k + 1)) ≡ Next m
-  blocks-next k at m e h = rw (add-one k) (next-block k ∙ sym (goes (blocksTo n v s k) (λ _ at. blockAt n k v s at) at (Next m) e (λ _. sym h)))
+  -- what reading block k at its targets answers, as the next block's answer
+  by-targets : (k at : ℕ) (ts : Targets) (r : Read) → ts ≡ targetsOf n k → readOf (blocksTo n v s k) ≡ Next at → readOf (blockAt ts v s at) ≡ r → readOf (blocksTo n v s (suc k)) ≡ r
+  by-targets k at ts r g e h = next-block k ∙ sym (goes (blocksTo n v s k) (λ _ at. blockAt (targetsOf n k) v s at) at r e (λ _. sym h ∙ ap (λ (t : Targets). readOf (blockAt t v s at)) g))
+
+  pub blocks-next : (k at m : ℕ) (ts : Targets) → ts ≡ targetsOf n k → readOf (blocksTo n v s k) ≡ Next at → readOf (blockAt ts v s at) ≡ Next m → readOf (blocksTo n v s (k + 1)) ≡ Next m
+  blocks-next k at m ts g e h = rw (add-one k) (by-targets k at ts (Next m) g e h)
 
   -- a refusal among the first blocks is that of all
   blocks-stay : (k j : ℕ) (r : Refusal) → readOf (blocksTo n v s k) ≡ Refused r → readOf (blocksTo n v s (k + j)) ≡ Refused r
   blocks-stay k zero r e = rw (add-zero k) e
-  blocks-stay k (suc j) r e = rw (add-suc k j) (next-block (k + j) ∙ sym (stays (blocksTo n v s (k + j)) (λ _ at. blockAt n (k + j) v s at) r (blocks-stay k j r e)))
+  blocks-stay k (suc j) r e = rw (add-suc k j) (next-block (k + j) ∙ sym (stays (blocksTo n v s (k + j)) (λ _ at. blockAt (targetsOf n (k + j)) v s at) r (blocks-stay k j r e)))
 
-  pub blocks-refused : (k at : ℕ) (r : Refusal) → k < n → readOf (blocksTo n v s k) ≡ Next at → readOf (blockAt n k v s at) ≡ Refused r → readOf (blocksTo n v s n) ≡ Refused r
-  blocks-refused k at r h e f =
+  pub blocks-refused : (k at : ℕ) (r : Refusal) (ts : Targets) → k < n → ts ≡ targetsOf n k → readOf (blocksTo n v s k) ≡ Next at → readOf (blockAt ts v s at) ≡ Refused r → readOf (blocksTo n v s n) ≡ Refused r
+  blocks-refused k at r ts h g e f =
       let q : suc k + (n - suc k) ≡ n = omega arith in
-      ap (λ m. readOf (blocksTo n v s m)) (sym q) ∙ (blocks-stay (suc k) (n - suc k) r (next-block k ∙ sym (goes (blocksTo n v s k) (λ _ at. blockAt n k v s at) at (Refused r) e (λ _. sym f))))
+      ap (λ m. readOf (blocksTo n v s m)) (sym q) ∙ blocks-stay (suc k) (n - suc k) r (by-targets k at ts (Refused r) g e f)
 
   pub blocks-all : (k at : ℕ) → n ≤ k → k ≤ n → readOf (blocksTo n v s k) ≡ Next at → Next at ≡ readOf (blocksTo n v s n)
   blocks-all k at l u e = let q : k ≡ n = omega arith in sym e ∙ ap (λ m. readOf (blocksTo n v s m)) q

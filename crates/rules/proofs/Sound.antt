@@ -8,11 +8,11 @@ use mathlib.Core.List.{List}
 use lib.Dec.{ltb, leb, eqb}
 use lib.ListN.{length, getD}
 use borrow.Author.Tests.{ltb-true, leb-true, eqb-true}
-use Rattle.paper.specs.Rule.{Expr, Cond, Const, Var, Neg, Op, Case, Compare, Not, Join}
-use Rattle.paper.specs.Columns.{reads, looks}
-use Rattle.paper.specs.Grammar.{Got, got, refused, then, readOf, byteAt, one, two, constantAt, variableAt, exprAt, condAt, exprBody, condBody, exprTag, condTag}
-use Rattle.paper.specs.Grammar.{ExprTag, constTag, varTag, negTag, caseTag, badExpr, opTag, CondTag, notTag, badCond, compareTag, joinTag}
-use Rattle.paper.specs.declared.Read.the-variants.{Next}
+use Rattle.definitions.specs.Rule.{Expr, Cond, Const, Var, Neg, Op, Case, Compare, Not, Join}
+use Rattle.definitions.specs.Columns.{reads, looks}
+use Rattle.definitions.specs.Grammar.{Got, got, refused, then, readOf, byteAt, one, two, constantAt, variableAt, exprAt, condAt, exprBody, condBody, exprTag, condTag}
+use Rattle.definitions.specs.Grammar.{ExprTag, constTag, varTag, negTag, caseTag, badExpr, opTag, CondTag, notTag, badCond, compareTag, joinTag}
+use Rattle.definitions.specs.declared.Read.the-variants.{Next}
 use Rattle.rules.specs.Accepted.{Each, ExprIn, CondIn}
 
 -- of a reading at a place of so many bytes

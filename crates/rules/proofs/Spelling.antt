@@ -9,15 +9,15 @@ use mathlib.Core.List.{List, _++_}
 use lib.Dec.{ltb, eqb}
 use lib.ListN.{length, take, drop, take-append-drop}
 use borrow.Author.Tests.{eqb-true}
-use Rattle.paper.specs.Rule.{Rule, size}
-use Rattle.paper.specs.Grammar.{Got, got, refused, then, formIn, headed, ruleOf, longest}
-use Rattle.paper.specs.Plan.{placeOf, endOf}
-use Rattle.paper.specs.Pages.{fileOf, unpacked}
-use Rattle.paper.specs.Calls.{toRead, toWrite, Wrote}
-use Rattle.paper.specs.Spelling.{inTurn, blockBytes, bytesOf}
-use Rattle.paper.specs.Limits.{Every, BlockKeeps, Limits}
-use Rattle.paper.specs.declared.Reply.{Reply}
-use Rattle.paper.specs.declared.Reply.the-variants.{Done}
+use Rattle.definitions.specs.Rule.{Rule, size}
+use Rattle.definitions.specs.Grammar.{Got, got, refused, then, formIn, headed, ruleOf, longest}
+use Rattle.definitions.specs.Plan.{placeOf, endOf}
+use Rattle.definitions.specs.Pages.{fileOf, unpacked}
+use Rattle.definitions.specs.Calls.{toRead, toWrite, Wrote}
+use Rattle.definitions.specs.Spelling.{inTurn, blockBytes, bytesOf}
+use Rattle.definitions.specs.Limits.{Every, BlockKeeps, Limits}
+use Rattle.definitions.specs.declared.Reply.{Reply}
+use Rattle.definitions.specs.declared.Reply.the-variants.{Done}
 use Rattle.pages.proofs.Trip.{Bytes, read-write}
 use Rattle.rules.specs.Replies.{Make, OfRule, bad, short, done, OfFile, page, holds, ToWrite, long, may}
 use Rattle.rules.specs.Spelling.{Accepts}

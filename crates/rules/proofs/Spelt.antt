@@ -11,11 +11,11 @@ use lib.IntN.{ℤ, pos, negsuc}
 use lib.ListN.{length, getD, drop, length-append}
 use lib.Seq.{drop-cons, drop-length, getD-append-seam}
 use borrow.Author.Tests.{ltb-true, ltb-false, lt-ltb, le-ltb}
-use Rattle.paper.specs.Values.{value, fault, flaw, settled}
-use Rattle.paper.specs.declared.Kind.the-variants.{OutOfRange}
-use Rattle.paper.specs.Grammar.{twos, wordOf}
-use Rattle.paper.specs.Spelling.{unsigned, le32, inTurn}
-use Rattle.paper.specs.Limits.{InRange, Every}
+use Rattle.definitions.specs.Values.{value, fault, flaw, settled}
+use Rattle.definitions.specs.declared.Kind.the-variants.{OutOfRange}
+use Rattle.definitions.specs.Grammar.{twos, wordOf}
+use Rattle.definitions.specs.Spelling.{unsigned, le32, inTurn}
+use Rattle.definitions.specs.Limits.{InRange, Every}
 
 -- ---- one after the other
 pub every-append : {A : Type 0} (P : A → Type 0) (xs ys : List A) → Every P xs → Every P ys → Every P (xs ++ ys)

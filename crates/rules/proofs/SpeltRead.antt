@@ -4,18 +4,19 @@ use native.Mathlib.Omega.{arith}
 use mathlib.Core.Path.{_≡_, refl, ap, _∙_}
 use mathlib.Core.Bool.{Bool, true, cond}
 use mathlib.Core.List.{List, [], _∷_, _++_, append-assoc}
-use lib.Dec.{ltb}
+use lib.Dec.{ltb, leb}
 use lib.IntN.{ℤ}
 use lib.ListN.{length, getD, take}
 use lib.Seq.{take-suc, take-length}
 use borrow.Author.Tests.{lt-ltb, le-ltb, le-leb, eq-eqb, ne-eqb}
-use Rattle.paper.specs.Rule.{Expr, Cond, Const, Var, Neg, Op, Case, Compare, Not, Join, Stmt, Set, Emit, End, Goto, Jump, Stop, If, Block, Rule, size, blockOf}
-use Rattle.paper.specs.Columns.{goesTo}
-use Rattle.paper.specs.Grammar.{Got, got, refused, then, byteAt, one, two, constantAt, variableAt, targetAt, ahead, anywhere, twos, exprAt, condAt, exprBody, condBody, exprTag, condTag}
-use Rattle.paper.specs.Grammar.{ExprTag, constTag, varTag, negTag, caseTag, opTag, CondTag, notTag, compareTag, joinTag, noStmt, stmtTag, EndTag, gotoTag, jumpTag, stopTag, ifTag, endTag, endBody, endAt, depth, levels, blockBody, blockAt, blocksTo, after, headed, ruleOf}
-use Rattle.paper.specs.Spelling.{constantBytes, unsigned, exprBytes, condBytes, stmtBytes, endBytes, inTurn, blockBytes, bytesOf}
-use Rattle.paper.specs.Limits.{exprDepth, condDepth, endDepth, InRange, ExprKeeps, CondKeeps, StmtKeeps, EndKeeps, Every, BlockKeeps, Limits}
-use Rattle.paper.proofs.Tests.{or-left, or-right, and-both}
+use Rattle.definitions.specs.Rule.{Expr, Cond, Const, Var, Neg, Op, Case, Compare, Not, Join, Stmt, Set, Emit, End, Goto, Jump, Stop, If, Block, Rule, size, blockOf}
+use Rattle.definitions.specs.Columns.{goesTo}
+use Rattle.definitions.specs.Grammar.{Got, got, refused, then, byteAt, one, two, constantAt, variableAt, targetAt, mayGoto, mayJump, targetsOf, twos, exprAt, condAt, exprBody, condBody, exprTag, condTag}
+use Rattle.definitions.specs.declared.Targets.{Targets}
+use Rattle.definitions.specs.Grammar.{ExprTag, constTag, varTag, negTag, caseTag, opTag, CondTag, notTag, compareTag, joinTag, noStmt, stmtTag, EndTag, gotoTag, jumpTag, stopTag, ifTag, endTag, endBody, endAt, depth, levels, blockBody, blockAt, blocksTo, after, headed, ruleOf}
+use Rattle.definitions.specs.Spelling.{constantBytes, unsigned, exprBytes, condBytes, stmtBytes, endBytes, inTurn, blockBytes, bytesOf}
+use Rattle.definitions.specs.Limits.{exprDepth, condDepth, endDepth, InRange, ExprKeeps, CondKeeps, StmtKeeps, EndKeeps, Every, BlockKeeps, Limits}
+use Rattle.definitions.proofs.Tests.{or-left, or-right, and-both}
 use Rattle.rules.specs.Readings.{tagAt}
 use Rattle.rules.specs.Accepted.{noBlock}
 use Rattle.rules.proofs.Laws.{expr-level, cond-level}
@@ -72,8 +73,8 @@ module _ (s : List ℕ) where
   cond-tag : (d v at : ℕ) (t : CondTag) → 1 ≤ d → at < length s → condTag (getD s at 0) ≡ t → condAt d v s at ≡ condBody t (λ n. exprAt (d - 1) v s n) (λ n. condAt (d - 1) v s n) at
   cond-tag d v at t h l e = cond-level d v s at ∙ rw (tag-gives d at h l, e)
 
-  end-tag : (d n b v at : ℕ) (t : EndTag) → 1 ≤ d → at < length s → endTag (getD s at 0) ≡ t → endAt d n b v s at ≡ endBody t n b v s (λ m. endAt (d - 1) n b v s m) at
-  end-tag d n b v at t h l e = end-level d n b v s at ∙ rw (tag-gives d at h l, e)
+  end-tag : (d : ℕ) (ts : Targets) (v at : ℕ) (t : EndTag) → 1 ≤ d → at < length s → endTag (getD s at 0) ≡ t → endAt d ts v s at ≡ endBody t ts v s (λ m. endAt (d - 1) ts v s m) at
+  end-tag d ts v at t h l e = end-level d ts v s at ∙ rw (tag-gives d at h l, e)
 
   -- ---- expressions and conditions
   mutual
@@ -108,18 +109,18 @@ module _ (s : List ℕ) where
         ∙ two-give condBytes (Join j) _ a b (cond-gives a (d - 1) v (omega arith) (k .0)) (cond-gives b (d - 1) v (omega arith) (k .1)) (at + 1) n (st .2)
 
   -- ---- endings and blocks
-  module _ (n b v : ℕ) where
-    end-gives : (e : End) (d : ℕ) → endDepth e ≤ d → EndKeeps n v e → ((t : ℕ) → goesTo e t ≡ true → b < t) → Gives endBytes (endAt d n b v s) e
+  module _ (ts : Targets) (v : ℕ) where
+    end-gives : (e : End) (d : ℕ) → endDepth e ≤ d → EndKeeps (ts .blocks) v e → ((t : ℕ) → goesTo e t ≡ true → ts .lowest ≤ t) → Gives endBytes (endAt d ts v s) e
     unfolding endBytes endDepth EndKeeps goesTo
     end-gives (Goto t) d h k up at m st =
-        end-tag d n b v at gotoTag (omega arith) (st .0) (ap endTag (st .1))
-        ∙ one-gives (λ x. x ∷ []) Goto (targetAt (ahead n b) s) t (tested-gives (ahead n b) 7 t (and-both (ltb b t) _ (lt-ltb b t (up t (eq-eqb t t refl))) (lt-ltb t n k))) (at + 1) m (st .2)
+        end-tag d ts v at gotoTag (omega arith) (st .0) (ap endTag (st .1))
+        ∙ one-gives (λ x. x ∷ []) Goto (targetAt (mayGoto ts) s) t (tested-gives (mayGoto ts) 7 t (and-both (leb (ts .lowest) t) _ (le-leb (ts .lowest) t (up t (eq-eqb t t refl))) (lt-ltb t (ts .blocks) k))) (at + 1) m (st .2)
     end-gives (Jump t) d h k up at m st =
-        end-tag d n b v at jumpTag (omega arith) (st .0) (ap endTag (st .1))
-        ∙ one-gives (λ x. x ∷ []) Jump (targetAt (anywhere n) s) t (tested-gives (anywhere n) 7 t (lt-ltb t n k)) (at + 1) m (st .2)
-    end-gives Stop d h k up at m st = end-tag d n b v at stopTag (omega arith) (st .0) (ap endTag (st .1)) ∙ ap (got Stop) (st .2)
+        end-tag d ts v at jumpTag (omega arith) (st .0) (ap endTag (st .1))
+        ∙ one-gives (λ x. x ∷ []) Jump (targetAt (mayJump ts) s) t (tested-gives (mayJump ts) 7 t (lt-ltb t (ts .blocks) k)) (at + 1) m (st .2)
+    end-gives Stop d h k up at m st = end-tag d ts v at stopTag (omega arith) (st .0) (ap endTag (st .1)) ∙ ap (got Stop) (st .2)
     end-gives (If c x y) d h k up at m st =
-        end-tag d n b v at ifTag (omega arith) (st .0) (ap endTag (st .1))
+        end-tag d ts v at ifTag (omega arith) (st .0) (ap endTag (st .1))
         ∙ first-gives condBytes (condAt depth v s) _ c (If c x y) (endBytes x ++ endBytes y) (cond-gives c depth v (k .0) (k .1))
         (two-give endBytes (If c) _ x y
         (end-gives x (d - 1) (omega arith) (k .2) (λ t p. up t (or-left (goesTo x t) _ p)))
@@ -135,7 +136,7 @@ module _ (s : List ℕ) where
     ends-body (If c x y) at m st = ap stmtTag (st .1)
 
     -- a block goes on after each of its statements
-    stmt-gives : (x : Stmt) → StmtKeeps v x → (B : ℕ → Got Block) (at m : ℕ) → Spelt s at (stmtBytes x) m → blockBody (stmtTag (getD s at 0)) n b v s B at ≡ one (after x) B m
+    stmt-gives : (x : Stmt) → StmtKeeps v x → (B : ℕ → Got Block) (at m : ℕ) → Spelt s at (stmtBytes x) m → blockBody (stmtTag (getD s at 0)) ts v s B at ≡ one (after x) B m
     unfolding stmtBytes StmtKeeps
     stmt-gives (Set x a) k B at m st =
         rw (ap stmtTag (st .1))
@@ -146,16 +147,16 @@ module _ (s : List ℕ) where
         rw (ap stmtTag (st .1))
         (ap (λ (p : Got Stmt). then p (λ x m. one (after x) B m)) (one-gives exprBytes Emit (exprAt depth v s) a (expr-gives a depth v (k .0) (k .1)) (at + 1) m (st .2)))
 
-    module _ (e : End) (deep : endDepth e ≤ levels) (keeps : EndKeeps n v e) (up : (t : ℕ) → goesTo e t ≡ true → b < t) where
-      body-gives : (xs : List Stmt) → Every (StmtKeeps v) xs → (at m : ℕ) → Spelt s at (inTurn stmtBytes xs ++ endBytes e) m → blockAt n b v s at ≡ got (record { body = xs; ending = e }) m
+    module _ (e : End) (deep : endDepth e ≤ levels) (keeps : EndKeeps (ts .blocks) v e) (up : (t : ℕ) → goesTo e t ≡ true → ts .lowest ≤ t) where
+      body-gives : (xs : List Stmt) → Every (StmtKeeps v) xs → (at m : ℕ) → Spelt s at (inTurn stmtBytes xs ++ endBytes e) m → blockAt ts v s at ≡ got (record { body = xs; ending = e }) m
       unfolding inTurn Every
       body-gives [] k at m st =
-          block-is n b v s at ∙ rw (ends-body e at m st) (one-gives endBytes (λ (e : End). record { body = []; ending = e }) (endAt levels n b v s) e (end-gives e levels deep keeps up) at m st)
+          block-is ts v s at ∙ rw (ends-body e at m st) (one-gives endBytes (λ (e : End). record { body = []; ending = e }) (endAt levels ts v s) e (end-gives e levels deep keeps up) at m st)
       body-gives (x ∷ xs) k at m st =
           let p = parted s (stmtBytes x) (inTurn stmtBytes xs ++ endBytes e) at m (rw append-assoc at st) in
-          block-is n b v s at ∙ stmt-gives x (k .0) (λ m. blockAt n b v s m) at (p .0) (p .1) ∙ rw (body-gives xs (k .1) (p .0) m (p .2))
+          block-is ts v s at ∙ stmt-gives x (k .0) (λ m. blockAt ts v s m) at (p .0) (p .1) ∙ rw (body-gives xs (k .1) (p .0) m (p .2))
 
-    block-gives : (x : Block) → BlockKeeps n v x → ((t : ℕ) → goesTo (x .ending) t ≡ true → b < t) → Gives blockBytes (blockAt n b v s) x
+    block-gives : (x : Block) → BlockKeeps (ts .blocks) v x → ((t : ℕ) → goesTo (x .ending) t ≡ true → ts .lowest ≤ t) → Gives blockBytes (blockAt ts v s) x
     unfolding blockBytes
     block-gives x k up = body-gives (x .ending) (k .ending-deep) (k .ending-keeps) up (x .body) (k .body-keeps)
 
@@ -167,7 +168,7 @@ module _ (s : List ℕ) where
     blocks-give (suc k) m l st =
         let e = take-suc (r .blocks) k noBlock l in
         let p = parted s (inTurn blockBytes (take k (r .blocks))) (blockBytes (blockOf r k)) 4 m (rw (e, in-turn-last blockBytes (take k (r .blocks)) (blockOf r k)) at st) in
-        rw (blocks-give k (p .0) (omega arith) (p .1), block-gives (size r) k (r .variables) (blockOf r k) (every-at (BlockKeeps (size r) (r .variables)) (r .blocks) k noBlock (lim .blocks-keep) l) (λ t q. lim .gotos-rise k t l q) (p .0) m (p .2), e)
+        rw (blocks-give k (p .0) (omega arith) (p .1), block-gives (targetsOf (size r) k) (r .variables) (blockOf r k) (every-at (BlockKeeps (size r) (r .variables)) (r .blocks) k noBlock (lim .blocks-keep) l) (λ t q. omega (arith, lim .gotos-rise k t l q)) (p .0) m (p .2), e)
 
 -- ---- a rule
 header-gives : {A : Type 0} (r : Rule) (rest : Got A) → Limits r → headed (bytesOf r) rest ≡ rest

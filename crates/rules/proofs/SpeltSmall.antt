@@ -3,10 +3,10 @@ use Prim.Native.Nat.{ℕ, zero, suc, _≤_, _<_}
 use native.Mathlib.Omega.{arith}
 use mathlib.Core.List.{List, [], _∷_, _++_}
 use lib.IntN.{ℤ}
-use Rattle.paper.specs.Rule.{Operator, Add, Subtract, Multiply, Divide, Remainder, Relation, Less, Equal, Joint, And, Or}
-use Rattle.paper.specs.Rule.{Expr, Cond, Const, Var, Neg, Op, Case, Compare, Not, Join, Stmt, Set, Emit, End, Goto, Jump, Stop, If, Block, Rule, size}
-use Rattle.paper.specs.Spelling.{constantBytes, operatorByte, relationByte, jointByte, exprBytes, condBytes, stmtBytes, endBytes, inTurn, blockBytes, bytesOf}
-use Rattle.paper.specs.Limits.{InRange, ExprKeeps, CondKeeps, StmtKeeps, EndKeeps, Every, BlockKeeps, Limits}
+use Rattle.definitions.specs.Rule.{Operator, Add, Subtract, Multiply, Divide, Remainder, Relation, Less, Equal, Joint, And, Or}
+use Rattle.definitions.specs.Rule.{Expr, Cond, Const, Var, Neg, Op, Case, Compare, Not, Join, Stmt, Set, Emit, End, Goto, Jump, Stop, If, Block, Rule, size}
+use Rattle.definitions.specs.Spelling.{constantBytes, operatorByte, relationByte, jointByte, exprBytes, condBytes, stmtBytes, endBytes, inTurn, blockBytes, bytesOf}
+use Rattle.definitions.specs.Limits.{InRange, ExprKeeps, CondKeeps, StmtKeeps, EndKeeps, Every, BlockKeeps, Limits}
 use Rattle.pages.proofs.Trip.{Bytes}
 use Rattle.rules.proofs.Spelt.{every-append, reached}
 

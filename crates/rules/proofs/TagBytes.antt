@@ -4,10 +4,10 @@ use mathlib.Core.Path.{_≡_, refl}
 use mathlib.Core.Bool.{Bool, true, false, cond}
 use lib.Dec.{eqb}
 use borrow.Author.Tests.{eqb-true}
-use Rattle.paper.specs.Rule.{Operator, Add, Subtract, Multiply, Divide, Remainder, Relation, Less, Equal, Joint, And, Or}
-use Rattle.paper.specs.Grammar.{ExprTag, constTag, varTag, negTag, caseTag, badExpr, opTag, exprTag, CondTag, notTag, badCond, compareTag, joinTag, condTag}
-use Rattle.paper.specs.Grammar.{StmtTag, setTag, emitTag, noStmt, stmtTag, EndTag, gotoTag, jumpTag, stopTag, ifTag, badEnd, endTag}
-use Rattle.paper.specs.Spelling.{operatorByte, relationByte, jointByte}
+use Rattle.definitions.specs.Rule.{Operator, Add, Subtract, Multiply, Divide, Remainder, Relation, Less, Equal, Joint, And, Or}
+use Rattle.definitions.specs.Grammar.{ExprTag, constTag, varTag, negTag, caseTag, badExpr, opTag, exprTag, CondTag, notTag, badCond, compareTag, joinTag, condTag}
+use Rattle.definitions.specs.Grammar.{StmtTag, setTag, emitTag, noStmt, stmtTag, EndTag, gotoTag, jumpTag, stopTag, ifTag, badEnd, endTag}
+use Rattle.definitions.specs.Spelling.{operatorByte, relationByte, jointByte}
 
 -- ---- from the byte that is written to the tag
 pub operator-tag : (o : Operator) → exprTag (operatorByte o) ≡ opTag o

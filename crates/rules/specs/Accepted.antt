@@ -4,9 +4,10 @@ use Prim.Native.Nat.{ℕ, _<_, _≤_}
 use mathlib.Core.Path.{_≡_}
 use mathlib.Core.Bool.{Bool, true}
 use mathlib.Core.List.{List, [], _∷_}
-use Rattle.paper.specs.Rule.{Expr, Cond, Stmt, Set, Emit, End, Stop, Block, Rule, size, blockOf}
-use Rattle.paper.specs.Grammar.{variablesIn, argumentsIn, blocksIn}
-use Rattle.paper.specs.Columns.{reads, looks, endLooks, goesTo, leadsTo}
+use Rattle.definitions.specs.Rule.{Expr, Cond, Stmt, Set, Emit, End, Stop, Block, Rule, size, blockOf}
+use Rattle.definitions.specs.Grammar.{targetsOf, mostVariables, mostBlocks, variablesIn, argumentsIn, blocksIn}
+use Rattle.definitions.specs.declared.Targets.{Targets}
+use Rattle.definitions.specs.Columns.{reads, looks, endLooks, goesTo, jumpsTo}
 
 -- of all that a set holds, P; or that it lies below a bound
 abbrev pub Each : (ℕ → Type 0) → (ℕ → Bool) → Type 0
@@ -30,15 +31,19 @@ abbrev pub BodyIn : ℕ → List Stmt → Type 0
 BodyIn v [] = Unit {0}
 BodyIn v (x ∷ xs) = StmtIn v x × BodyIn v xs
 
--- of block b, of n blocks
-pub record EndIn (n b v : ℕ) (e : End) : Type 0 where
-  pub variables-exist : Below v (endLooks e)
-  pub targets-exist : Below n (leadsTo e)
-  pub gotos-rise : Each (λ t. b < t) (goesTo e)
+-- where a goto goes
+abbrev pub Ahead : Targets → ℕ → Type 0
+Ahead ts t = (ts .lowest ≤ t) × (t < ts .blocks)
 
-pub record BlockIn (n b v : ℕ) (x : Block) : Type 0 where
+-- of an ending that may name these targets
+pub record EndIn (ts : Targets) (v : ℕ) (e : End) : Type 0 where
+  pub variables-exist : Below v (endLooks e)
+  pub gotos-in : Each (Ahead ts) (goesTo e)
+  pub jumps-in : Below (ts .blocks) (jumpsTo e)
+
+pub record BlockIn (ts : Targets) (v : ℕ) (x : Block) : Type 0 where
   pub body-in : BodyIn v (x .body)
-  pub ending-in : EndIn n b v (x .ending)
+  pub ending-in : EndIn ts v (x .ending)
 
 -- what stands for a block past the last
 abbrev pub noBlock : Block
@@ -50,8 +55,8 @@ pub record RuleIn (s : List ℕ) (r : Rule) : Type 0 where
   pub arguments-are : r .arguments ≡ argumentsIn s
   pub blocks-are : size r ≡ blocksIn s
   pub variables-from : 1 ≤ r .variables
-  pub variables-to : r .variables ≤ 16
+  pub variables-to : r .variables ≤ mostVariables
   pub arguments-to : r .arguments ≤ r .variables
   pub blocks-from : 1 ≤ size r
-  pub blocks-to : size r ≤ 64
-  pub block-in : (b : ℕ) → BlockIn (size r) b (r .variables) (blockOf r b)
+  pub blocks-to : size r ≤ mostBlocks
+  pub block-in : (b : ℕ) → BlockIn (targetsOf (size r) b) (r .variables) (blockOf r b)

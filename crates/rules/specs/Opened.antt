@@ -3,10 +3,10 @@ use Prim.Native.Nat.{ℕ, _≤_}
 use mathlib.Core.Path.{_≡_}
 use mathlib.Core.List.{List}
 use lib.ListN.{take}
-use Rattle.paper.specs.Grammar.{Got, longest}
-use Rattle.paper.specs.Calls.{bytesIn}
-use Rattle.paper.specs.declared.Reply.{Reply}
-use Rattle.paper.specs.declared.Reply.the-variants.{Done}
+use Rattle.definitions.specs.Grammar.{Got, longest}
+use Rattle.definitions.specs.Calls.{bytesIn}
+use Rattle.definitions.specs.declared.Reply.{Reply}
+use Rattle.definitions.specs.declared.Reply.the-variants.{Done}
 use Rattle.pages.specs.Answers.{scanOf}
 
 pub record Opened (what : Got (List ℕ)) (r : Reply) (buffer : List ℕ) : Type 0 where

@@ -4,8 +4,8 @@ use mathlib.Core.Bool.{Bool, true, false, cond, _&&_}
 use mathlib.Core.List.{List}
 use lib.Dec.{ltb, leb, eqb}
 use lib.ListN.{getD}
-use Rattle.paper.specs.Rule.{Stmt}
-use Rattle.paper.specs.Grammar.{Got, got, refused, then, byteAt, StmtTag, setTag, emitTag, noStmt, stmtTag, setAt, emitAt, headed, blocksIn}
+use Rattle.definitions.specs.Rule.{Stmt}
+use Rattle.definitions.specs.Grammar.{Got, got, refused, then, byteAt, StmtTag, setTag, emitTag, noStmt, stmtTag, setAt, emitAt, headed, blocksIn}
 use Rattle.rules.specs.declared.exprs.Due.{Due}
 use Rattle.rules.specs.declared.exprs.Due.the-variants.{Tag, Refused}
 

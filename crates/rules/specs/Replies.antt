@@ -5,12 +5,12 @@ use Prim.Native.Nat.{ℕ, _≤_, _<_}
 use mathlib.Core.Path.{_≡_}
 use mathlib.Core.List.{List}
 use lib.ListN.{length}
-use Rattle.paper.specs.Rule.{Rule}
-use Rattle.paper.specs.Grammar.{got, refused, ruleOf, longest}
-use Rattle.paper.specs.Pages.{fileOf, unpacked}
-use Rattle.paper.specs.Calls.{refusal}
-use Rattle.paper.specs.declared.Reply.{Reply}
-use Rattle.paper.specs.declared.Reply.the-variants.{Done}
+use Rattle.definitions.specs.Rule.{Rule}
+use Rattle.definitions.specs.Grammar.{got, refused, ruleOf, longest}
+use Rattle.definitions.specs.Pages.{fileOf, unpacked}
+use Rattle.definitions.specs.Calls.{refusal}
+use Rattle.definitions.specs.declared.Reply.{Reply}
+use Rattle.definitions.specs.declared.Reply.the-variants.{Done}
 use Rattle.pages.specs.Refusals.{Refuses}
 
 -- what a call writes of a rule with the bytes s

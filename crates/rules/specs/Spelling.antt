@@ -3,9 +3,9 @@ use Prim.Native.Nat.{ℕ, _≤_}
 use mathlib.Core.Path.{_≡_}
 use mathlib.Core.List.{List}
 use lib.ListN.{length}
-use Rattle.paper.specs.Rule.{Rule}
-use Rattle.paper.specs.Spelling.{bytesOf}
-use Rattle.paper.specs.Limits.{Limits}
+use Rattle.definitions.specs.Rule.{Rule}
+use Rattle.definitions.specs.Spelling.{bytesOf}
+use Rattle.definitions.specs.Limits.{Limits}
 use Rattle.rules.specs.Replies.{Make}
 
 -- s is a rule, what the call makes of it takes n bytes, and there is so much room

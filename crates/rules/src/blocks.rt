@@ -5,49 +5,48 @@ use crate::exprs::read_cond;
 use crate::exprs::read_expr;
 use crate::exprs::read_tag;
 use crate::exprs::read_variable;
-use paper::Read;
-use paper::Refusal;
+use definitions::DEPTH;
+use definitions::LEVELS;
+use definitions::Read;
+use definitions::Targets;
+use definitions::misread;
 ghost use mathlib.Core.Path.{_≡_};
-ghost use Rattle.paper.specs.Grammar.{readOf, ahead, targetAt, endAt, blockAt};
+ghost use Prim.Native.Nat.{_<_};
+ghost use Rattle.definitions.specs.Grammar.{readOf, targetsOf, endAt, blockAt};
 ghost use Rattle.rules.specs.Readings.{begins, stmtAt};
 
-// The levels that expressions and conditions may have, and those of endings.
-const DEPTH: u8 = 8;
-
-const LEVELS: u8 = 4;
-
-// A goto's block, which has to come after its own.
-fn read_ahead(s: &[u8], at: usize, blocks: u8, block: u8) -> Read
-    ensures { λ r. ⌜ r ≡ readOf (targetAt (ahead blocks block) (now (s .entry)) at) ⌝ }
+// The targets of one of these blocks.
+pub fn targets_of(blocks: u8, block: u8) -> Targets
+    requires { ⌜ block < blocks ⌝ }
+    ensures { λ r. ⌜ r ≡ targetsOf blocks block ⌝ }
 {
-    let low = block as u16 + 1;
-    read_among(s, at, low, blocks, 7)
+    let lowest = block + 1;
+    Targets { lowest, blocks }
 }
 
-// The ending at a place in a block: an if holds two more, with a level less.
-pub fn read_end(s: &[u8], at: usize, v: u8, blocks: u8, block: u8, left: u8) -> Read
-    ensures { λ r. ⌜ r ≡ readOf (endAt left blocks block v (now (s .entry)) at) ⌝ }
+// The ending at a place: an if holds two more, with a level less.
+pub fn read_end(s: &[u8], at: usize, v: u8, targets: Targets, left: u8) -> Read
+    ensures { λ r. ⌜ r ≡ readOf (endAt left targets v (now (s .entry)) at) ⌝ }
 {
+    let lowest = targets.lowest;
+    let blocks = targets.blocks;
     match read_tag(s, at, left) {
         Due::Refused(e) => Read::Refused(e),
         Due::Tag(tag) => {
             let next = at + 1;
             let less = left - 1;
             match tag {
-                0x30 => read_ahead(s, next, blocks, block),
+                0x30 => read_among(s, next, lowest, blocks, 7),
                 0x31 => read_among(s, next, 0, blocks, 7),
                 0x32 => Read::Next(next),
                 0x33 => match read_cond(s, next, v, DEPTH) {
                     Read::Refused(e) => Read::Refused(e),
-                    Read::Next(n) => match read_end(s, n, v, blocks, block, less) {
+                    Read::Next(n) => match read_end(s, n, v, targets, less) {
                         Read::Refused(e) => Read::Refused(e),
-                        Read::Next(m) => read_end(s, m, v, blocks, block, less),
+                        Read::Next(m) => read_end(s, m, v, targets, less),
                     },
                 },
-                _ => Read::Refused(Refusal {
-                    number: 5,
-                    place: at,
-                }),
+                _ => misread(5, at),
             }
         }
     }
@@ -78,18 +77,15 @@ pub fn read_stmt(s: &[u8], at: usize, v: u8) -> Read
                     Read::Refused(e) => Read::Refused(e),
                 },
                 0x21 => read_expr(s, next, v, DEPTH),
-                _ => Read::Refused(Refusal {
-                    number: 5,
-                    place: at,
-                }),
+                _ => misread(5, at),
             }
         }
     }
 }
 
-// A block of these many: its statements, then its ending.
-pub fn read_block(s: &[u8], at: usize, v: u8, blocks: u8, block: u8) -> Read
-    ensures { λ r. ⌜ r ≡ readOf (blockAt blocks block v (now (s .entry)) at) ⌝ }
+// The block at a place: its statements, then its ending.
+pub fn read_block(s: &[u8], at: usize, v: u8, targets: Targets) -> Read
+    ensures { λ r. ⌜ r ≡ readOf (blockAt targets v (now (s .entry)) at) ⌝ }
 {
     let mut next = at;
     while begins_stmt(s, next) {
@@ -98,5 +94,5 @@ pub fn read_block(s: &[u8], at: usize, v: u8, blocks: u8, block: u8) -> Read
             Read::Refused(e) => return Read::Refused(e),
         }
     }
-    read_end(s, next, v, blocks, block, LEVELS)
+    read_end(s, next, v, targets, LEVELS)
 }

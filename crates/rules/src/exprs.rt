@@ -1,8 +1,9 @@
 // Readers of expressions and conditions: where what stands at a place ends, or why it is refused.
-use paper::Read;
-use paper::Refusal;
+use definitions::Read;
+use definitions::Refusal;
+use definitions::misread;
 ghost use mathlib.Core.Path.{_≡_};
-ghost use Rattle.paper.specs.Grammar.{readOf, constantAt, variableAt, exprAt, condAt};
+ghost use Rattle.definitions.specs.Grammar.{readOf, constantAt, variableAt, exprAt, condAt};
 ghost use Rattle.rules.specs.Readings.{tagAt, dueOf, amongAt, second};
 
 // The tag that is due at a place, or why none is read there.
@@ -35,32 +36,23 @@ fn read_constant(s: &[u8], at: usize) -> Read
     ensures { λ r. ⌜ r ≡ readOf (constantAt (now (s .entry)) at) ⌝ }
 {
     if s.len() < 4 || s.len() - 4 < at {
-        return Read::Refused(Refusal {
-            number: 9,
-            place: s.len(),
-        });
+        return misread(9, s.len());
     }
     Read::Next(at + 4)
 }
 
 // A byte that names one of a kind: from `low` on and below `high`, or it is refused with this number.
-pub fn read_among(s: &[u8], at: usize, low: u16, high: u8, number: u8) -> Read
+pub fn read_among(s: &[u8], at: usize, low: u8, high: u8, number: u8) -> Read
     ensures { λ r. ⌜ r ≡ readOf (amongAt low high number (now (s .entry)) at) ⌝ }
 {
     if s.len() <= at {
-        return Read::Refused(Refusal {
-            number: 9,
-            place: s.len(),
-        });
+        return misread(9, s.len());
     }
     let k = s[at];
-    if low <= k as u16 && k < high {
+    if low <= k && k < high {
         Read::Next(at + 1)
     } else {
-        Read::Refused(Refusal {
-            number: number,
-            place: at,
-        })
+        misread(number, at)
     }
 }
 
@@ -89,10 +81,7 @@ pub fn read_expr(s: &[u8], at: usize, v: u8, left: u8) -> Read
                     Read::Next(n) => read_two(s, n, v, less),
                     Read::Refused(e) => Read::Refused(e),
                 },
-                _ => Read::Refused(Refusal {
-                    number: 5,
-                    place: at,
-                }),
+                _ => misread(5, at),
             }
         }
     }
@@ -124,10 +113,7 @@ pub fn read_cond(s: &[u8], at: usize, v: u8, left: u8) -> Read
                     Read::Next(n) => read_cond(s, n, v, less),
                     Read::Refused(e) => Read::Refused(e),
                 },
-                _ => Read::Refused(Refusal {
-                    number: 5,
-                    place: at,
-                }),
+                _ => misread(5, at),
             }
         }
     }

@@ -1,11 +1,12 @@
 // Rule files: a file's rule into the caller's buffer, and a rule's file.
-use paper::Read;
-use paper::Refusal;
-use paper::Reply;
+use definitions::LONGEST;
+use definitions::Read;
+use definitions::Reply;
+use definitions::refuse;
 ghost use Prim.Native.Nat.{_≤_};
 ghost use lib.ListN.{length};
-ghost use Rattle.paper.specs.Grammar.{longest};
-ghost use Rattle.paper.specs.Calls.{Wrote, toRead, toWrite};
+ghost use Rattle.definitions.specs.Grammar.{longest};
+ghost use Rattle.definitions.specs.Calls.{Wrote, toRead, toWrite};
 ghost use Rattle.rules.specs.Opened.{Opened};
 
 // The rule in a file, at the start of a buffer that any rule fits in: its length, or why there is none.
@@ -29,17 +30,14 @@ pub fn open(file: &[u8], rule: &mut [u8]) -> Reply
 pub fn read(file: &[u8], out: &mut [u8]) -> Reply
     ensures { λ r. ⌜ Wrote (toRead (now (file .entry))) (now (out .entry)) r (now (out .exit)) ⌝ }
 {
-    let mut rule = [0u8; 4064];
+    let mut rule = [0u8; LONGEST];
     match open(file, &mut rule) {
         Reply::Refused(f) => Reply::Refused(f),
         Reply::Done(n) => {
             if out.len() < n {
-                return Reply::Refused(Refusal {
-                    number: 12,
-                    place: 0,
-                });
+                return refuse(12, 0);
             }
-            words::copy_bytes_at(out, 0, &rule[..n]);
+            buffers::copy_bytes_at(out, 0, &rule[..n]);
             Reply::Done(n)
         }
     }
@@ -50,21 +48,15 @@ pub fn write(rule: &[u8], out: &mut [u8]) -> Reply
     ensures { λ r. ⌜ Wrote (toWrite (now (rule .entry))) (now (out .entry)) r (now (out .exit)) ⌝ }
 {
     let n = rule.len();
-    if 4064 < n {
-        return Reply::Refused(Refusal {
-            number: 11,
-            place: 0,
-        });
+    if LONGEST < n {
+        return refuse(11, 0);
     }
     match crate::read_rule(rule) {
         Read::Refused(f) => Reply::Refused(f),
         Read::Next(_) => {
-            let size = (n + 507) / 508 * 512;
+            let size = pages::file_size(n);
             if out.len() < size {
-                return Reply::Refused(Refusal {
-                    number: 12,
-                    place: 0,
-                });
+                return refuse(12, 0);
             }
             pages::put_file(rule, out);
             Reply::Done(size)

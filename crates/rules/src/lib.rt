@@ -3,13 +3,15 @@ pub mod blocks;
 pub mod exprs;
 mod files;
 
+use definitions::BLOCKS;
+use definitions::Read;
+use definitions::VARIABLES;
+use definitions::misread;
 pub use files::open;
 pub use files::read;
 pub use files::write;
-use paper::Read;
-use paper::Refusal;
 ghost use mathlib.Core.Path.{_≡_};
-ghost use Rattle.paper.specs.Grammar.{readOf, between, blocksTo, ruleOf};
+ghost use Rattle.definitions.specs.Grammar.{readOf, between, blocksTo, ruleOf};
 ghost use Rattle.rules.specs.Readings.{headerAt};
 
 // Whether a number lies between two, both included.
@@ -24,34 +26,19 @@ fn read_header(s: &[u8]) -> Read
     ensures { λ r. ⌜ r ≡ readOf (headerAt (now (s .entry))) ⌝ }
 {
     if s.len() < 4 {
-        return Read::Refused(Refusal {
-            number: 9,
-            place: s.len(),
-        });
+        return misread(9, s.len());
     }
     if s[0] != 1 {
-        return Read::Refused(Refusal {
-            number: 4,
-            place: 0,
-        });
+        return misread(4, 0);
     }
-    if !within(s[1], 1, 16) {
-        return Read::Refused(Refusal {
-            number: 4,
-            place: 1,
-        });
+    if !within(s[1], 1, VARIABLES as u8) {
+        return misread(4, 1);
     }
     if s[1] < s[2] {
-        return Read::Refused(Refusal {
-            number: 4,
-            place: 2,
-        });
+        return misread(4, 2);
     }
-    if !within(s[3], 1, 64) {
-        return Read::Refused(Refusal {
-            number: 4,
-            place: 3,
-        });
+    if !within(s[3], 1, BLOCKS as u8) {
+        return misread(4, 3);
     }
     Read::Next(4)
 }
@@ -63,7 +50,8 @@ fn read_blocks(s: &[u8], v: u8, blocks: u8) -> Read
     let mut at = 4;
     let mut block = 0;
     while block < blocks {
-        match blocks::read_block(s, at, v, blocks, block) {
+        let targets = blocks::targets_of(blocks, block);
+        match blocks::read_block(s, at, v, targets) {
             Read::Next(n) => at = n,
             Read::Refused(e) => return Read::Refused(e),
         }
@@ -82,10 +70,7 @@ pub fn read_rule(s: &[u8]) -> Read
             Read::Refused(e) => Read::Refused(e),
             Read::Next(n) => {
                 if n < s.len() {
-                    Read::Refused(Refusal {
-                        number: 10,
-                        place: n,
-                    })
+                    misread(10, n)
                 } else {
                     Read::Next(n)
                 }

@@ -3,13 +3,13 @@ use Prim.Native.Nat.{ℕ, _+_, _*_, _≤_, _<_}
 use native.Mathlib.Omega.{arith}
 use mathlib.Core.Path.{_≡_, sym, ap, _∙_}
 use mathlib.Core.List.{List}
-use Rattle.paper.specs.Batch.{Word}
-use Rattle.paper.specs.Grammar.{Got}
-use Rattle.paper.specs.Calls.{refusal, Wrote, Batch, Ran}
-use Rattle.paper.specs.declared.Refusal.{Refusal}
-use Rattle.paper.specs.declared.Reply.{Reply}
-use Rattle.paper.specs.declared.Reply.the-variants.{Done, Refused}
-use Rattle.tap.specs.Packed.{half, packed, Clear, Stands}
+use Rattle.definitions.specs.Batch.{Word}
+use Rattle.definitions.specs.Grammar.{Got}
+use Rattle.definitions.specs.Calls.{refusal, Wrote, Batch, Ran}
+use Rattle.definitions.specs.declared.Refusal.{Refusal}
+use Rattle.definitions.specs.declared.Reply.{Reply}
+use Rattle.definitions.specs.declared.Reply.the-variants.{Done, Refused}
+use Rattle.tap.specs.Packed.{half, packed, mostNumber, Clear, Stands}
 
 -- ---- replies
 
@@ -22,7 +22,7 @@ module _ (r : Reply) (f : Refusal) (e : r ≡ Refused f) where
   unfolding packed
   pack-refused = rw e
 
-  pub pack-room : Clear r → (f .number ≤ 15) × (f .place < half)
+  pub pack-room : Clear r → (f .number ≤ mostNumber) × (f .place < half)
   unfolding Clear
   pack-room h = rw e at h .1
 
@@ -53,3 +53,6 @@ module _ {b : Batch} {out work o o′ w w′ : List Word} {x x′ : ℕ} where
   ran-once p p′ =
       let e : p .reply ≡ p′ .reply = p .holds .reply ∙ sym (p′ .holds .reply) in
       (p .packs ∙ ap packed e ∙ sym (p′ .packs), (p .holds .result ∙ rw e (sym (p′ .holds .result)), p .holds .working ∙ rw e (sym (p′ .holds .working))))
+
+pub told-once : {q : Reply} {x x′ : ℕ} → Stands (λ r. r ≡ q) x → Stands (λ r. r ≡ q) x′ → x ≡ x′
+told-once p p′ = p .packs ∙ ap packed (p .holds ∙ sym (p′ .holds)) ∙ sym (p′ .packs)

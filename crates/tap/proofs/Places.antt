@@ -8,8 +8,8 @@ use lib.IntN.{pos}
 use lib.ListN.{length, getD}
 use denote.Ref.{RefT}
 use borrow.Author.Tests.{lt-ltb, le-ltb}
-use Rattle.paper.specs.Batch.{Word, recordSize, lineSize}
-use Rattle.paper.specs.Finder.{isNumber, lineIndex, linePart, foundIn}
+use Rattle.definitions.specs.Batch.{Word, recordSize, lineSize}
+use Rattle.definitions.specs.Finder.{isNumber, lineIndex, linePart, foundIn}
 use Rattle.batches.specs.Limits.{within}
 use Rattle.batches.proofs.Finds.{found-none, found-line, found-record}
 use Rattle.tap.specs.Packed.{half}

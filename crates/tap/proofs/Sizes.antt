@@ -8,17 +8,17 @@ use mathlib.Core.List.{List, [], _∷_, _++_, map, append-assoc, append-nil}
 use lib.Dec.{ltb, eqb}
 use lib.ListN.{length, length-append, length-take, length-drop}
 use borrow.Author.Tests.{ltb-false}
-use Rattle.paper.specs.Rule.{Rule, size}
-use Rattle.paper.specs.Values.{Val}
-use Rattle.paper.specs.Direct.{State, unfinished, Round, jumped, finished, walk, joined, advance, after}
-use Rattle.paper.specs.Batch.{Word, recordSize, lineSize, startAt, startsOf, statesOf, mostOf}
-use Rattle.paper.specs.Grammar.{Got, got, refused, then, ruleOf, longest}
-use Rattle.paper.specs.Pages.{wordAt, checkOf, pageIn, payloadOf, lengthOk, fillerOk, sizeOk, pageAt, payloadTo, unpacked, fileOf}
-use Rattle.paper.specs.Calls.{refusal, toRead, toWrite, toCompile, replyIn, Wrote, Batch, Ran, ranReply, runReply, rowsOf, columns, mostBudget}
-use Rattle.paper.specs.Finder.{mostRows, mostQuota}
-use Rattle.paper.specs.Plan.{planOf, planned}
-use Rattle.paper.specs.declared.Reply.{Reply}
-use Rattle.paper.specs.declared.Reply.the-variants.{Done}
+use Rattle.definitions.specs.Rule.{Rule, size}
+use Rattle.definitions.specs.Values.{Val}
+use Rattle.definitions.specs.Direct.{State, unfinished, Round, jumped, finished, walk, joined, advance, after}
+use Rattle.definitions.specs.Batch.{Word, recordSize, lineSize, startAt, startsOf, statesOf, mostOf}
+use Rattle.definitions.specs.Grammar.{Got, got, refused, then, ruleOf, longest}
+use Rattle.definitions.specs.Pages.{mostPages, pageSize, lengthIn, checkIn, checkOf, pageIn, payloadOf, lengthOk, fillerOk, sizeOk, pageAt, payloadTo, unpacked, fileOf}
+use Rattle.definitions.specs.Calls.{refusal, toRead, toWrite, toCompile, replyIn, Wrote, Batch, Ran, ranReply, runReply, rowsOf, columns, mostBudget}
+use Rattle.definitions.specs.Finder.{mostRows, mostQuota}
+use Rattle.definitions.specs.Plan.{planOf, planned}
+use Rattle.definitions.specs.declared.Reply.{Reply}
+use Rattle.definitions.specs.declared.Reply.the-variants.{Done}
 use Rattle.pages.proofs.Reading.{size-is}
 use Rattle.pages.proofs.Writing.{length-file}
 use Rattle.rules.specs.Accepted.{RuleIn}
@@ -26,12 +26,12 @@ use Rattle.rules.proofs.Sound.{Sound}
 use Rattle.rules.proofs.Accepted.{rule-sound, rule-in}
 use Rattle.rules.proofs.Places.{rule-header}
 use Rattle.plans.proofs.Fields.{plan-length}
-use Rattle.tap.specs.Packed.{packed, Clear, Stands}
+use Rattle.tap.specs.Packed.{packed, mostNumber, Clear, Stands}
 
 -- what is to be written, or the place of what is refused, is at most m
 unfoldable pub Within : ℕ → Got (List ℕ) → Type 0
 Within m (got xs n) = length xs ≤ m
-Within m (refused k p) = (1 ≤ k) × ((k ≤ 15) × (p ≤ m))
+Within m (refused k p) = (1 ≤ k) × ((k ≤ mostNumber) × (p ≤ m))
 
 pub clear-wrote : {what : Got (List ℕ)} {old : List ℕ} {r : Reply} {new : List ℕ} → Within 8192 what → Wrote what old r new → Clear r
 unfolding Within replyIn Clear
@@ -49,21 +49,21 @@ answered {r = r} h w e = record { reply = r; holds = w; clear = clear-wrote h w;
 -- ---- files
 
 -- page k, of which nothing is asked: its payload is a part of it
-page-within : (last : Bool) (file : List ℕ) (k : ℕ) → Within (k + 512) (pageAt last (pageIn file k) k)
+page-within : (last : Bool) (file : List ℕ) (k : ℕ) → Within (k + pageSize) (pageAt last (pageIn file k) k)
 unfolding pageAt Within
-page-within last file k = go (eqb (wordAt (pageIn file k) 510) (checkOf k (pageIn file k))) (lengthOk last (wordAt (pageIn file k) 0) && fillerOk (pageIn file k))
+page-within last file k = go (eqb (checkIn (pageIn file k)) (checkOf k (pageIn file k))) (lengthOk last (lengthIn (pageIn file k)) && fillerOk (pageIn file k))
   where
-    go : (a b : Bool) → Within (k + 512) (cond (not a) (refused 2 k) (cond (not b) (refused 3 k) (got (payloadOf (pageIn file k)) (k + 1))))
+    go : (a b : Bool) → Within (k + pageSize) (cond (not a) (refused 2 k) (cond (not b) (refused 3 k) (got (payloadOf (pageIn file k)) (k + 1))))
     go false b = (omega arith, (omega arith, omega arith))
     go true false = (omega arith, (omega arith, omega arith))
     go true true = simp (length-take, length-drop) (omega arith)
 
-pages-within : (file : List ℕ) (P k : ℕ) → k ≤ 8 → Within (k * 520) (payloadTo file P k)
+pages-within : (file : List ℕ) (P k : ℕ) → k ≤ mostPages → Within (k * 520) (payloadTo file P k)
 unfolding payloadTo Within
 pages-within file P zero few = omega arith
 pages-within file P (suc k) few = go (payloadTo file P k) (pageAt (eqb (k + 1) P) (pageIn file k) k) (pages-within file P k (omega arith)) (page-within (eqb (k + 1) P) file k)
   where
-    go : (p q : Got (List ℕ)) → Within (k * 520) p → Within (k + 512) q → Within (suc k * 520) (then p (λ xs at. then q (λ ys next. got (xs ++ ys) next)))
+    go : (p q : Got (List ℕ)) → Within (k * 520) p → Within (k + pageSize) q → Within (suc k * 520) (then p (λ xs at. then q (λ ys next. got (xs ++ ys) next)))
     go (got xs n) (got ys m) h l = simp length-append (omega arith)
     go (got xs n) (refused i j) h l = (l .0, (l .1 .0, omega arith))
     go (refused i j) q h l = (h .0, (h .1 .0, omega arith))
@@ -76,11 +76,11 @@ file-within file = go (sizeOk (length file)) refl
     wider m n (got xs a) h l = omega arith
     wider m n (refused i j) h l = (l .0, (l .1 .0, omega arith))
 
-    go : (b : Bool) → sizeOk (length file) ≡ b → Within 4160 (cond b (payloadTo file (length file / 512) (length file / 512)) (refused 1 0))
+    go : (b : Bool) → sizeOk (length file) ≡ b → Within 4160 (cond b (payloadTo file (length file / pageSize) (length file / pageSize)) (refused 1 0))
     go true e =
         let few = size-is (length file) e in
-        let k : length file / 512 ≤ 8 = omega arith in
-        wider (length file / 512 * 520) 4160 (payloadTo file (length file / 512) (length file / 512)) (omega arith) (pages-within file (length file / 512) (length file / 512) k)
+        let k : length file / pageSize ≤ mostPages = omega arith in
+        wider (length file / pageSize * 520) 4160 (payloadTo file (length file / pageSize) (length file / pageSize)) (omega arith) (pages-within file (length file / pageSize) (length file / pageSize) k)
     go false e = (omega arith, (omega arith, omega arith))
 
 -- ---- the calls
@@ -156,7 +156,7 @@ module _ (r : Rule) (q : ℕ) where
 -- ---- the run
 
 -- a refusal of the calls, whose place is 0 or 1
-clear-refused : (k p : ℕ) → 1 ≤ k → k ≤ 15 → p ≤ 1 → Clear (refusal k p)
+clear-refused : (k p : ℕ) → 1 ≤ k → k ≤ mostNumber → p ≤ 1 → Clear (refusal k p)
 unfolding Clear
 clear-refused k p l u h = (l, (u, omega arith))
 

@@ -7,8 +7,8 @@ use lib.Dec.{ltb}
 use lib.IntN.{pos}
 use lib.ListN.{length, getD}
 use denote.Ref.{RefT}
-use Rattle.paper.specs.Batch.{Word, recordSize, lineSize}
-use Rattle.paper.specs.Finder.{Part, partOf, isNumber, lineIndex}
+use Rattle.definitions.specs.Batch.{Word, recordSize, lineSize}
+use Rattle.definitions.specs.Finder.{Part, partOf, isNumber, lineIndex}
 use Rattle.batches.specs.Limits.{within}
 use Rattle.tap.specs.Packed.{half}
 

@@ -1,9 +1,10 @@
 // The calls, exported for C and Rust. A slice passes as a pointer and a length; what an answer's 64 bits hold is said in specs/.
 ghost use mathlib.Core.Path.{_≡_};
-ghost use Rattle.paper.specs.Calls.{Wrote, Ran, toRead, toWrite, toCompile};
+ghost use Rattle.definitions.specs.Plan.{planned};
+ghost use Rattle.definitions.specs.Calls.{Wrote, Ran, toRead, toWrite, toCompile, columnsReply};
 ghost use Rattle.tap.specs.Packed.{packed, Clear, Stands};
 ghost use Rattle.tap.specs.Place.{placed, placeIn};
-use paper::Reply;
+use definitions::Reply;
 
 // A reply in 64 bits.
 fn pack(r: Reply) -> u64
@@ -41,6 +42,14 @@ pub extern "C" fn tap_compile(file: &[u8], out: &mut [u8]) -> u64
     ensures { λ x. ⌜ Stands (λ r. Wrote (toCompile (now (file .entry))) (now (out .entry)) r (now (out .exit))) x ⌝ }
 {
     let r = plans::compile(file, out);
+    pack(r)
+}
+
+#[no_mangle]
+pub extern "C" fn tap_columns(plan: &[u8]) -> u64
+    ensures { λ x. ⌜ Stands (λ r. r ≡ columnsReply (planned (now (plan .entry)))) x ⌝ }
+{
+    let r = plans::columns(plan);
     pack(r)
 }
 

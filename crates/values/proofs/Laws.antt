@@ -14,9 +14,11 @@ use mir.Facts.{sfits-widen, toZ-ofZ}
 use mir.ValLaws.{sfits-le}
 use borrow.Author.Needs.{needs}
 use borrow.Author.Tests.{ltb-false, lt-ltb, le-ltb, eqb-true, eqb-false, eq-eqb, ne-eqb}
-use Rattle.paper.specs.Values.{value, outcomeOf, isEqual, settled, divided, quotient, remainder, least, most}
-use Rattle.paper.specs.Grammar.{twos}
-use Rattle.paper.specs.declared.Outcome.the-variants.{Value}
+use Rattle.definitions.specs.Values.{Val, Out, value, flaw, outcomeOf, isEqual, settled, divided, quotient, remainder, least, most}
+use Rattle.definitions.specs.Grammar.{twos}
+use Rattle.definitions.specs.declared.Kind.the-variants.{ZeroDivisor, OutOfRange}
+use Rattle.definitions.specs.declared.Outcome.{Outcome}
+use Rattle.definitions.specs.declared.Outcome.the-variants.{Value, Fault}
 
 -- ---- the size of a negation, a sum and a product
 abs-neg : (z : ℤ) → natAbs (negℤ z) ≤ natAbs z
@@ -97,16 +99,9 @@ nonzero : (y : ℤ) → (ofZ w32 y ≡ 0 → ⊥) → eqb (natAbs y) 0 ≡ false
 nonzero (pos n) h = ne-eqb n 0 h
 nonzero (negsuc n) h = ne-eqb (suc n) 0 (λ e. omega arith)
 
-divided-fits : (y : ℤ) {z : ℤ} → (ofZ w32 y ≡ 0 → ⊥) → SFits w32 z → outcomeOf (divided y (settled z)) ≡ Value z
-divided-fits y h f = rw (nonzero y h) (ap outcomeOf (settled-fits f))
-
 mag-neg : (q : ℕ) → mag (negℤ (pos q)) ≤ q - 1
 mag-neg zero = omega arith
 mag-neg (suc q) = omega arith
-
-pub quotient-value : (x y : ℤ) → (ofZ w32 y ≡ 0 → ⊥) → SFits w32 (quotZ x y) → outcomeOf (quotient x y) ≡ Value (quotZ x y)
-unfolding quotient
-quotient-value x y h f = divided-fits y h f
 
 -- a quotient fits, but for the least number by -1
 pub quotient-fits : (x y : ℤ) → SFits w32 x → (ofZ w32 x ≡ 2147483648 → ofZ w32 y ≡ 4294967295 → ⊥) → SFits w32 (quotZ x y)
@@ -143,9 +138,28 @@ remainder-law (negsuc a) (negsuc b) = more a _ _ (mod-add-div (suc a) (suc b))
 pub remainder-fits : (x y : ℤ) → SFits w32 x → SFits w32 (remZ x y)
 remainder-fits x y f = sfits-le (mag-rem x y) f
 
-pub remainder-value : (x y : ℤ) → (ofZ w32 y ≡ 0 → ⊥) → SFits w32 x → outcomeOf (remainder x y) ≡ Value (remZ x y)
-unfolding remainder
-remainder-value x y h f = rw remainder-law (divided-fits y h (remainder-fits x y f))
+-- an operator that divides: what its exact result is, and what it gives at the corner
+pub record Divides (op : ℤ → ℤ → Out Val) (exact : ℤ → ℤ → ℤ) (corner : Outcome) : Type 0 where
+  pub is : (x y : ℤ) → op x y ≡ divided y (settled (exact x y))
+  pub at-corner : corner ≡ outcomeOf (op least (negsuc 0))
+
+pub quotients : Divides quotient quotZ (Fault (flaw OutOfRange))
+unfolding settled quotient
+quotients = record { is = λ x y. refl; at-corner = refl }
+
+pub remainders : Divides remainder remZ (Value (pos 0))
+unfolding settled remainder
+remainders = record { is = λ x y. rw remainder-law; at-corner = refl }
+
+module _ {op : ℤ → ℤ → Out Val} {exact : ℤ → ℤ → ℤ} {corner : Outcome} (d : Divides op exact corner) {x y : ℤ} (f : SFits w32 x) (g : SFits w32 y) where
+  pub by-zero : ofZ w32 y ≡ 0 → Fault (flaw ZeroDivisor) ≡ outcomeOf (op x y)
+  by-zero e = rw (d .is x y, named g e)
+
+  pub by-corner : ofZ w32 x ≡ 2147483648 → ofZ w32 y ≡ 4294967295 → corner ≡ outcomeOf (op x y)
+  by-corner p q = rw (named f p, named g q) (d .at-corner)
+
+  pub by-other : (ofZ w32 y ≡ 0 → ⊥) → SFits w32 (exact x y) → Value (exact x y) ≡ outcomeOf (op x y)
+  by-other h e = rw (d .is x y, nonzero y h) (ap outcomeOf (sym (settled-fits e)))
 
 -- ---- two's complement
 pub twos-low : {n : ℕ} → n < 2147483648 → twos n ≡ pos n

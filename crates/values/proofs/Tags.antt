@@ -5,7 +5,7 @@ use Prim.Native.Nat.{ℕ, zero, suc, _+_, _≤_}
 use native.Mathlib.Omega.{arith}
 use lib.Dec.{eqb}
 use borrow.Author.Tests.{eqb-true, eqb-false}
-use Rattle.paper.specs.Grammar.{exprTag, opTag, condTag, compareTag, joinTag}
+use Rattle.definitions.specs.Grammar.{exprTag, opTag, condTag, compareTag, joinTag}
 use Rattle.values.specs.Tags.{operatorOf, relationOf, jointOf}
 
 -- P at low, low + 1 and so on, n + 1 of them

@@ -2,7 +2,7 @@
 use Prim.Native.Nat.{ℕ}
 use mathlib.Core.Bool.{cond}
 use lib.Dec.{eqb}
-use Rattle.paper.specs.Rule.{Operator, Add, Subtract, Multiply, Divide, Remainder, Relation, Less, Equal, Joint, And, Or}
+use Rattle.definitions.specs.Rule.{Operator, Add, Subtract, Multiply, Divide, Remainder, Relation, Less, Equal, Joint, And, Or}
 
 -- of 04 to 08
 unfoldable pub operatorOf : ℕ → Operator

@@ -2,14 +2,14 @@
 ghost use mathlib.Core.Path.{_≡_};
 ghost use Prim.Native.Nat.{_+_, _≤_};
 ghost use lib.ListN.{length};
-ghost use Rattle.paper.specs.Values.{outcomeOf, settled, negation, sum, difference, product, quotient, remainder, isLess, isEqual};
-ghost use Rattle.paper.specs.Meaning.{applied, compared, decided};
-ghost use Rattle.paper.specs.Direct.{faulted};
-ghost use Rattle.paper.specs.Grammar.{wordOf, twos, constantIn};
+ghost use Rattle.definitions.specs.Values.{outcomeOf, settled, negation, sum, difference, product, quotient, remainder, isLess, isEqual};
+ghost use Rattle.definitions.specs.Meaning.{applied, compared, decided};
+ghost use Rattle.definitions.specs.Direct.{faulted};
+ghost use Rattle.definitions.specs.Grammar.{wordOf, twos, constantIn};
 ghost use Rattle.values.specs.Tags.{operatorOf, relationOf, jointOf};
-use paper::Flaw;
-use paper::Kind;
-use paper::Outcome;
+use definitions::Flaw;
+use definitions::Kind;
+use definitions::Outcome;
 
 // The ends of the range, as an exact result is held against them.
 const LOWEST: i64 = -2147483648;

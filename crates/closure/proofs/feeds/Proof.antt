@@ -2,9 +2,9 @@
 use Prim.Native.Nat.{ℕ, _-_, _≤_, _<_}
 use mathlib.Core.Path.{_≡_, sym}
 use mathlib.Core.Bool.{false, _&&_}
-use Rattle.paper.specs.Columns.{among}
+use Rattle.definitions.specs.Columns.{among}
 use Rattle.closure.specs.Tables.{edgeIn}
-use Rattle.paper.proofs.Tests.{some-in, some-none, and-both}
+use Rattle.definitions.proofs.Tests.{some-in, some-none, and-both}
 use mathlib.Core.Logic.{⊎-elim}
 use native.Mathlib.Omega.{arith}
 use borrow.Author.Needs.{needs}

@@ -3,7 +3,7 @@ use Prim.Native.Nat.{_-_, _≤_}
 use mathlib.Core.Path.{refl}
 use mathlib.Core.Bool.{false, _&&_}
 use Rattle.closure.proofs.Laws.{Written, written-none, written-set}
-use Rattle.paper.specs.Columns.{some, among}
+use Rattle.definitions.specs.Columns.{some, among}
 use Rattle.closure.specs.Tables.{edgeIn}
 use native.Mathlib.Omega.{arith}
 use borrow.Author.Needs.{needs}

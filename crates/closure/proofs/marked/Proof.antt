@@ -5,7 +5,7 @@ use Rattle.closure.proofs.Laws.{Filled, filled-none, filled-set, filled
 use mathlib.Core.Bool.{cond}
 use mathlib.Core.Logic.{⊎-elim}
 use lib.ListN.{getD}
-use Rattle.paper.specs.Columns.{among}
+use Rattle.definitions.specs.Columns.{among}
 use native.Mathlib.Omega.{arith}
 use borrow.Author.Needs.{needs}
 use Rattle.closure.proofs.marked.Statement.{statement}

@@ -1,6 +1,6 @@
 -- `closure::needing` meets its contract: the smallest set for a seed and edges that say below n what `variableIn` and `passing` say. Assumes nothing.
 use native.Mathlib.Omega.{arith}
-use Rattle.paper.proofs.Smallest.{alike}
+use Rattle.definitions.proofs.Smallest.{alike}
 use borrow.Author.Needs.{needs}
 use Rattle.closure.proofs.needing.Statement.{statement}
 use Rattle.closure.proofs.needing.Tie as tie

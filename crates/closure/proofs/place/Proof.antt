@@ -2,9 +2,9 @@
 use Prim.Native.Nat.{_-_, _≤_}
 use mathlib.Core.Path.{_≡_}
 use mathlib.Core.Logic.{⊎-elim}
-use Rattle.paper.specs.Batch.{countTo}
-use Rattle.paper.proofs.Counts.{count-le}
-use Rattle.paper.specs.Plan.{bitOf}
+use Rattle.definitions.specs.Batch.{countTo}
+use Rattle.definitions.proofs.Counts.{count-le}
+use Rattle.definitions.specs.Plan.{bitOf}
 use Rattle.closure.proofs.Bits.{count-none, count-more}
 use native.Mathlib.Omega.{arith}
 use borrow.Author.Needs.{needs}

@@ -2,9 +2,9 @@
 use Prim.Native.Nat.{ℕ, _-_}
 use mathlib.Core.Bool.{Bool}
 use borrow.Author.Tests.{not-true, not-false}
-use Rattle.paper.specs.Smallest.{Within, Closed}
-use Rattle.paper.specs.Columns.{among}
-use Rattle.paper.specs.Batch.{countTo}
+use Rattle.definitions.specs.Smallest.{Within, Closed}
+use Rattle.definitions.specs.Columns.{among}
+use Rattle.definitions.specs.Batch.{countTo}
 use Rattle.closure.specs.Tables.{edgeIn}
 use Rattle.closure.proofs.Sweeps.{sweep-sound, sweep-less, sweep-done}
 use borrow.Author.Needs.{needs}

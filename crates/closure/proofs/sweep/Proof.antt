@@ -6,7 +6,7 @@ use lib.ListN.{length, length-set}
 use lib.Seq.{getD-set-same, getD-set-other}
 use mathlib.Core.Logic.{inl, inr}
 use borrow.Author.Tests.{not-true, not-false}
-use Rattle.paper.specs.Columns.{among}
+use Rattle.definitions.specs.Columns.{among}
 use Rattle.closure.specs.Tables.{edgeIn}
 use Rattle.closure.specs.Sweep.{Sweep}
 use Rattle.closure.proofs.Sweeps.{sweep-none, sweep-stay, sweep-add}

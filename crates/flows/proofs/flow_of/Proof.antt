@@ -1,6 +1,7 @@
 -- `flows::flow_of` meets its contract. Assumes nothing.
 use native.Mathlib.Omega.{arith}
-use borrow.Author.Needs.{needs}
+use mathlib.Core.Path.{refl}
+use Rattle.flows.specs.Marks.{carries}
 use Rattle.flows.proofs.Flow.{header, few, in-reach, told}
 use Rattle.flows.proofs.flow_of.Statement.{statement}
 use Rattle.flows.proofs.flow_of.Tie as tie
@@ -21,17 +22,25 @@ uses-requires : tie.Need-uses-requires
 uses-requires c κs = let s = c .before .before .before .before .before in (few _ (s .pre), in-reach _ (s .pre) (c .before .places-of .result) (c .before .places-of .ensures))
 
 named-requires : tie.Need-named-requires
+unfolding carries
 named-requires c κs =
     let p = c .before .before .before .before .before in
     let s = p .before .before .before .before in
-    (few _ (s .pre), in-reach _ (s .pre) (p .places-of .result) (p .places-of .ensures))
+    (few _ (s .pre), refl, in-reach _ (s .pre) (p .places-of .result) (p .places-of .ensures))
+
+named-requires-2 : tie.Need-named-requires-2
+unfolding carries
+named-requires-2 c κs =
+    let p = c .before .before .before .before .before .before .before in
+    let s = p .before .before .before .before in
+    (few _ (s .pre), refl, in-reach _ (s .pre) (p .places-of .result) (p .places-of .ensures))
 
 returns : tie.Need-returns
 returns c = λ r m e.
-    let n = c .before in
-    let u = n .before .before .before .before in
+    let gotos = c .before .before in
+    let u = gotos .before .before .before .before in
     let p = u .before .before in
-    told _ (p .places-of .result) r m e (p .places-of .ensures) (u .uses .result .reads) (u .uses .result .sets) (n .named .result) (c .restarting .result) (u .uses .ensures) (n .named .ensures) (c .restarting .ensures)
+    told _ (p .places-of .result) r m e (p .places-of .ensures) (u .uses .result .reads) (u .uses .result .sets) (gotos .named .result) (c .named2 .result) (u .uses .ensures) (gotos .named .ensures) (c .named2 .ensures)
 
 pub flow-of-spec : {M : Type 1} → statement M
 flow-of-spec =
@@ -43,5 +52,5 @@ flow-of-spec =
     places-of-requires
     uses-requires
     named-requires
-    (λ c κs. search needs)
+    named-requires-2
     returns)

@@ -1,34 +1,32 @@
 -- `flows::named` meets its contract. One loop over the flat table: entry i is block i / 64, target i % 64. Assumes nothing.
-use Prim.Native.Nat.{_+_, _*_, _/_, _%_, _-_, _≤_}
+use Prim.Native.Nat.{_*_, _-_, _≤_}
 use native.Mathlib.Omega.{arith}
 use mathlib.Core.Path.{_≡_, refl}
-use mathlib.Core.Bool.{false, _||_}
+use mathlib.Core.Bool.{false}
 use borrow.Author.Needs.{needs}
-use Rattle.closure.proofs.Laws.{Written, written-none, written-set}
+use Rattle.closure.proofs.Laws.{Written, entryOf, written-none, written-set, in-rows}
 use Rattle.flows.specs.Marks.{partIn, has}
 use Rattle.flows.proofs.named.Statement.{statement}
 use Rattle.flows.proofs.named.Tie as tie
 
 abbrev Inv-loop : tie.InvT-loop
-Inv-loop s n places out₀ end i₀ out i = (i ≤ n * 64) × (end ≡ n * 64) × Written false 4096 i (λ m. has 0x30 (m % 64) (partIn s places (m / 64)) || has 0x31 (m % 64) (partIn s places (m / 64))) out
+Inv-loop s n places tag out₀ end i₀ out i = (i ≤ n * 64) × (end ≡ n * 64) × Written false 4096 i (entryOf 64 (λ _ b t. has tag t (partIn s places b))) out
 
 abbrev μ-loop : tie.MeasureT-loop
-μ-loop s n places out₀ end i₀ out i = n * 64 - i
+μ-loop s n places tag out₀ end i₀ out i = n * 64 - i
 
 loop-holds : tie.Need-loop-holds Inv-loop μ-loop
 loop-holds c = (search needs, search needs, written-none _ _ _ _ refl)
 
-leads-requires : tie.Need-leads-requires Inv-loop μ-loop
-leads-requires c κs = c .before .before .before .before .before .pre .1 _ (omega arith)
+holds-requires : tie.Need-holds-requires Inv-loop μ-loop
+holds-requires c κs = let pre = c .before .before .before .before .before .pre in (pre .2 _ (omega arith), pre .1)
 
 loop-again : tie.Need-loop-again Inv-loop μ-loop
-loop-again c = (omega arith, refl, written-set _ _ _ _ _ _ (omega arith) (c .before .before .before .before .loop .inv .2) (c .leads .ensures))
+unfolding entryOf
+loop-again c = (omega arith, refl, written-set _ _ _ _ _ _ (omega arith) (c .before .before .before .before .loop .inv .2) (c .holds .ensures))
 
 returns : tie.Need-returns Inv-loop μ-loop
-returns c = λ b t l h.
-    let q : (b * 64 + t) / 64 ≡ b = omega arith in
-    let r : (b * 64 + t) % 64 ≡ t = omega arith in
-    rw (q, r) at (c .before .loop .inv .2 .below (b * 64 + t) (omega arith))
+returns c = in-rows _ _ 64 (c .before .before .before .args .n) _ _ _ (omega arith) (c .before .loop .inv .2)
 
 pub named-spec : {M : Type 1} → statement M
 named-spec =
@@ -44,7 +42,7 @@ named-spec =
     (λ c. search needs)
     (λ c. search needs)
     (λ c. search needs)
-    leads-requires
+    holds-requires
     (λ c. search needs)
     (λ c. search needs)
     (λ c. search needs)

@@ -3,9 +3,9 @@ use Prim.Native.Nat.{ℕ, _-_, _≤_}
 use native.Mathlib.Omega.{arith}
 use mathlib.Core.Path.{_≡_, refl, sym, ap, _∙_}
 use borrow.Author.Needs.{needs}
-use Rattle.paper.specs.Grammar.{readOf, blocksTo}
-use Rattle.paper.specs.Plan.{endOf}
-use Rattle.paper.specs.declared.Read.the-variants.{Next}
+use Rattle.definitions.specs.Grammar.{readOf, blocksTo}
+use Rattle.definitions.specs.Plan.{endOf}
+use Rattle.definitions.specs.declared.Read.the-variants.{Next}
 use Rattle.rules.proofs.Laws.{told}
 use Rattle.rules.proofs.RuleLaws.{blocks-next, blocks-refused}
 use Rattle.rules.proofs.Places.{next-place}
@@ -27,9 +27,10 @@ returns : tie.Need-returns Inv-loop μ-loop
 unfolding readOf
 returns c = λ bs m e b h.
     let r = c .before .before in
-    let l = r .before .before in
+    let targets = r .before in
+    let l = targets .before .before in
     let a = l .before .before .args in
-    let f = blocks-refused (a .n) (a .v) (a .s .now) (l .loop .b) (l .loop .at) _ (omega arith) (l .loop .inv .1) (told (r .read-block .ensures) (c .enum-told .given .1)) in
+    let f = blocks-refused (a .n) (a .v) (a .s .now) (l .loop .b) (l .loop .at) _ _ (omega arith) (targets .targets-of .ensures) (l .loop .inv .1) (told (r .read-block .ensures) (c .enum-told .given .1)) in
     let q = sym f ∙ ap readOf e in
     let z : _≡_ {A = ℕ} 0 1 = cc in
     absurd (omega arith)
@@ -38,10 +39,11 @@ loop-again : tie.Need-loop-again Inv-loop μ-loop
 loop-again c =
     let n = c .before in
     let r = n .before .before in
-    let l = r .before .before in
+    let targets = r .before in
+    let l = targets .before .before in
     let a = l .before .before .args in (
       omega arith,
-      blocks-next (a .n) (a .v) (a .s .now) (l .loop .b) (l .loop .at) _ (l .loop .inv .1) (told (r .read-block .ensures) (n .next .given .1)),
+      blocks-next (a .n) (a .v) (a .s .now) (l .loop .b) (l .loop .at) _ _ (targets .targets-of .ensures) (l .loop .inv .1) (told (r .read-block .ensures) (n .next .given .1)),
       written-set _ _ _ _ _ _ (omega arith) (l .loop .inv .2) (next-place _ _ (l .loop .inv .1)),
     )
 
@@ -61,6 +63,7 @@ places-of-spec =
     (λ c. search needs)
     (λ c. search needs)
     (λ c. search needs)
+    (λ c κs. search needs)
     (λ c κs. search needs)
     (λ c. search needs)
     (λ c. search needs)

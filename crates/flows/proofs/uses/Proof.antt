@@ -1,10 +1,10 @@
 -- `flows::uses` meets its contract. One loop over both flat tables: entry i is block i / 16, variable i % 16. Assumes nothing.
-use Prim.Native.Nat.{_+_, _*_, _/_, _%_, _-_, _≤_}
+use Prim.Native.Nat.{_*_, _-_, _≤_}
 use native.Mathlib.Omega.{arith}
 use mathlib.Core.Path.{_≡_, refl}
 use mathlib.Core.Bool.{false}
 use borrow.Author.Needs.{needs}
-use Rattle.closure.proofs.Laws.{Written, written-none, written-set}
+use Rattle.closure.proofs.Laws.{Written, entryOf, written-none, written-set, in-rows}
 use Rattle.flows.specs.Marks.{carries, partIn, has, readsFirst}
 use Rattle.flows.proofs.uses.Statement.{statement}
 use Rattle.flows.proofs.uses.Tie as tie
@@ -12,8 +12,8 @@ use Rattle.flows.proofs.uses.Tie as tie
 abbrev Inv-loop : tie.InvT-loop
 Inv-loop s n places reads₀ sets₀ end i₀ reads sets i =
     (i ≤ n * 16) × (end ≡ n * 16)
-    × Written false 1024 i (λ m. readsFirst (m % 16) false (partIn s places (m / 16))) reads
-    × Written false 1024 i (λ m. has 0x20 (m % 16) (partIn s places (m / 16))) sets
+    × Written false 1024 i (entryOf 16 (λ _ b k. readsFirst k false (partIn s places b))) reads
+    × Written false 1024 i (entryOf 16 (λ _ b k. has 0x20 k (partIn s places b))) sets
 
 abbrev μ-loop : tie.MeasureT-loop
 μ-loop s n places reads₀ sets₀ end i₀ reads sets i = n * 16 - i
@@ -29,6 +29,7 @@ unfolding carries
 holds-requires c κs = (c .before .before .before .before .before .before .pre .1 _ (omega arith), refl)
 
 loop-again : tie.Need-loop-again Inv-loop μ-loop
+unfolding entryOf
 loop-again c =
     let l = c .before .before .before .before .before in (
       omega arith,
@@ -39,9 +40,9 @@ loop-again c =
 
 returns : tie.Need-returns Inv-loop μ-loop
 returns c = λ b k l h.
-    let q : (b * 16 + k) / 16 ≡ b = omega arith in
-    let r : (b * 16 + k) % 16 ≡ k = omega arith in
-    (rw (q, r) at (c .before .loop .inv .2 .below (b * 16 + k) (omega arith)), rw (q, r) at (c .before .loop .inv .3 .below (b * 16 + k) (omega arith)))
+    let n = c .before .before .before .args .n in
+    let r = c .before .loop .inv in
+    (in-rows _ _ 16 n _ _ _ (omega arith) (r .2) b k l h, in-rows _ _ 16 n _ _ _ (omega arith) (r .3) b k l h)
 
 pub uses-spec : {M : Type 1} → statement M
 uses-spec =

@@ -4,16 +4,16 @@ use mathlib.Core.Path.{_≡_, refl}
 use native.Mathlib.Omega.{arith}
 use native.Mathlib.Numerals.{add-one}
 use borrow.Author.Needs.{needs}
-use Rattle.paper.specs.Pages.{wordSum}
+use Rattle.definitions.specs.Pages.{summedWords, weightAt, wordSum}
 use Rattle.pages.proofs.Page.{check-law}
 use Rattle.pages.proofs.check.Statement.{statement}
 use Rattle.pages.proofs.check.Tie as tie
 
 abbrev Inv-loop : tie.InvT-loop
-Inv-loop p number sum₀ i₀ sum i = (i ≤ 255) × (sum ≡ wordSum p i % 65536)
+Inv-loop p number sum₀ i₀ sum i = (i ≤ summedWords) × (sum ≡ wordSum weightAt p i % 65536)
 
 abbrev μ-loop : tie.MeasureT-loop
-μ-loop p number sum₀ i₀ sum i = 255 - i
+μ-loop p number sum₀ i₀ sum i = summedWords - i
 
 loop-holds : tie.Need-loop-holds Inv-loop μ-loop
 unfolding wordSum

@@ -3,37 +3,37 @@ use mathlib.Core.Path.{_≡_, sym, ap}
 use native.Mathlib.Omega.{arith}
 use Prim.Native.Nat.{ℕ, _+_, _-_}
 use lib.ListN.{take, drop}
-use Rattle.paper.specs.Pages.{allZero, fillerOk}
+use Rattle.definitions.specs.Pages.{checkPlace, allZero, fillerOk}
 use Rattle.pages.proofs.Reading.{dirty, clean, cleared}
 use Rattle.pages.proofs.filler_ok.Statement.{statement}
 use Rattle.pages.proofs.filler_ok.Tie as tie
 
 abbrev Inv-loop : tie.InvT-loop
-Inv-loop p n i₀ i = fillerOk p ≡ allZero (drop i (take 510 p))
+Inv-loop p i₀ i = fillerOk p ≡ allZero (drop i (take checkPlace p))
 
 abbrev μ-loop : tie.MeasureT-loop
-μ-loop p n i₀ i = 510 - i
+μ-loop p i₀ i = checkPlace - i
 
 loop-holds : tie.Need-loop-holds Inv-loop μ-loop
-loop-holds c = ap (λ (n : ℕ). allZero (drop (n + 2) (take 510 (c .args .p .now)))) (sym (c .pre .1))
+loop-holds c = ap (λ (n : ℕ). allZero (drop (n + 2) (take checkPlace (c .before .before .args .p .now)))) (sym (c .length-in .ensures))
 
 returns : tie.Need-returns Inv-loop μ-loop
 returns c =
     let l = c .before .before .before .loop in
-    let s = c .before .before .before .before in
-    dirty (s .args .p .now) (l .i) (s .pre .0) (l .inv) (omega arith) (c .if1 .taken)
+    let s = c .before .before .before .before .before .before in
+    dirty (s .args .p .now) (l .i) (s .pre) (l .inv) (omega arith) (c .if1 .taken)
 
 loop-again : tie.Need-loop-again Inv-loop μ-loop
 loop-again c =
     let l = c .before .before .before .loop in
-    let s = c .before .before .before .before in
-    clean (s .args .p .now) (l .i) (s .pre .0) (l .inv) (omega arith) (c .if1 .left)
+    let s = c .before .before .before .before .before .before in
+    clean (s .args .p .now) (l .i) (s .pre) (l .inv) (omega arith) (c .if1 .left)
 
 returns-2 : tie.Need-returns-2 Inv-loop μ-loop
 returns-2 c =
     let l = c .before .loop in
-    let s = c .before .before in
-    cleared (s .args .p .now) (l .i) (s .pre .0) (l .inv) (omega arith)
+    let s = c .before .before .before .before in
+    cleared (s .args .p .now) (l .i) (s .pre) (l .inv) (omega arith)
 
 pub filler-ok-spec : {M : Type 1} → statement M
 filler-ok-spec =
@@ -41,6 +41,8 @@ filler-ok-spec =
     (tie.spec
     Inv-loop
     μ-loop
+    (λ c κs. omega arith)
+    (λ c. omega arith)
     (λ c. omega arith)
     loop-holds
     (λ c. omega arith)

@@ -7,7 +7,7 @@ use Rattle.pages.proofs.payload.Tie as tie
 returns : tie.Need-returns
 returns c =
     let s = c .before .before .before in
-    payload-part (s .args .p .now) (c .before .word-at .result) (c .before .word-at .ensures)
+    payload-part (s .args .p .now) (c .before .length-in .result) (c .before .length-in .ensures)
 
 pub payload-spec : {M : Type 1} → statement M
 payload-spec =

@@ -4,8 +4,8 @@ use mathlib.Core.Path.{_≡_, refl, _∙_}
 use native.Mathlib.Omega.{arith}
 use borrow.Author.Needs.{needs}
 use lib.ListN.{length}
-use Rattle.paper.specs.Pages.{pagesTo}
-use Rattle.words.specs.Words.{over}
+use Rattle.definitions.specs.Pages.{pagesTo}
+use Rattle.buffers.specs.Words.{over}
 use Rattle.pages.proofs.Writing.{part-le, pages-none, page-more, file-law}
 use Rattle.pages.proofs.put_file.Statement.{statement}
 use Rattle.pages.proofs.put_file.Tie as tie
@@ -18,13 +18,13 @@ abbrev μ-loop : tie.MeasureT-loop
 
 loop-holds : tie.Need-loop-holds Inv-loop μ-loop
 loop-holds c =
-    let a = c .before .before .args in
+    let a = c .before .before .before .args in
     (search needs, (refl, pages-none (a .rule .now) (a .out .now)))
 
 page-of-requires : tie.Need-page-of-requires Inv-loop μ-loop
 page-of-requires c κs =
     let at-loop = c .before .before in
-    part-le (at-loop .before .before .before .args .rule .now) (c .piece .result .now) (at-loop .loop .k) (c .piece .ensures)
+    part-le (at-loop .before .before .before .before .args .rule .now) (c .piece .result .now) (at-loop .loop .k) (c .piece .ensures)
 
 copy-bytes-at-requires : tie.Need-copy-bytes-at-requires Inv-loop μ-loop
 copy-bytes-at-requires c κs = omega arith
@@ -35,7 +35,7 @@ loop-again c =
     let at-page = at-copy .before .before .before in
     let at-piece = at-page .before in
     let at-loop = at-piece .before .before in
-    let a = at-loop .before .before .before .args in (
+    let a = at-loop .before .before .before .before .args in (
       omega arith,
       (
         at-copy .copy-bytes-at .kept .0 ∙ at-loop .loop .inv .1 .0,
@@ -46,7 +46,7 @@ loop-again c =
 returns : tie.Need-returns Inv-loop μ-loop
 returns c =
     let l = c .before .loop in
-    let a = c .before .before .before .before .args in
+    let a = c .before .before .before .before .before .args in
     file-law (a .rule .now) (a .out .now) (l .out) (l .k) (omega arith) (l .inv .1 .1)
 
 pub put-file-spec : {M : Type 1} → statement M
@@ -55,7 +55,7 @@ put-file-spec =
     (tie.spec
     Inv-loop
     μ-loop
-    (λ c. omega arith)
+    (λ c κs. search needs)
     loop-holds
     (λ c κs. omega arith)
     (λ c. omega arith)

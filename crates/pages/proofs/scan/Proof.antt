@@ -20,9 +20,10 @@ returns c =
 returns-2 : tie.Need-returns-2
 unfolding scanOf
 returns-2 c =
-    let file = c .before .before .before .args .file .now in
-    ap scanOf (sym (wrong-size file (sym (c .before .size-ok .ensures) ∙ c .if1 .left)))
+    let at-size = c .before .before in
+    let file = at-size .before .before .args .file .now in
+    c .refuse .ensures ∙ ap scanOf (sym (wrong-size file (sym (at-size .size-ok .ensures) ∙ c .before .if1 .left)))
 
 pub scan-spec : {M : Type 1} → statement M
 scan-spec =
-    tie.close (tie.spec (λ c κs. search needs) scan-pages-requires returns returns-2)
+    tie.close (tie.spec (λ c κs. search needs) scan-pages-requires (λ c κs. search needs) returns returns-2)

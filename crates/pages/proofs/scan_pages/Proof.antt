@@ -3,15 +3,15 @@ use Prim.Native.Nat.{_≤_, _-_, _*_}
 use mathlib.Core.Path.{_≡_, sym, ap, _∙_}
 use native.Mathlib.Omega.{arith}
 use borrow.Author.Needs.{needs}
-use Rattle.paper.specs.declared.Reply.the-variants.{Done}
-use Rattle.paper.specs.Pages.{payloadTo}
+use Rattle.definitions.specs.declared.Reply.the-variants.{Done}
+use Rattle.definitions.specs.Pages.{payloadRoom, payloadTo}
 use Rattle.pages.specs.Answers.{scanOf}
 use Rattle.pages.proofs.Reading.{page-room, scan-none, turn-on, turn-off}
 use Rattle.pages.proofs.scan_pages.Statement.{statement}
 use Rattle.pages.proofs.scan_pages.Tie as tie
 
 abbrev Inv-loop : tie.InvT-loop
-Inv-loop file pages total₀ k₀ total k = (k ≤ pages) × ((total ≤ 508 * k) × (scanOf (payloadTo file pages k) ≡ Done total))
+Inv-loop file pages total₀ k₀ total k = (k ≤ pages) × ((total ≤ payloadRoom * k) × (scanOf (payloadTo file pages k) ≡ Done total))
 
 abbrev μ-loop : tie.MeasureT-loop
 μ-loop file pages total₀ k₀ total k = pages - k

@@ -4,9 +4,9 @@ use mathlib.Core.Path.{_≡_, refl, ap, _∙_}
 use native.Mathlib.Omega.{arith}
 use borrow.Author.Needs.{needs}
 use lib.ListN.{length, length-append}
-use Rattle.paper.specs.Pages.{payloadTo}
-use Rattle.words.specs.Words.{over}
-use Rattle.paper.specs.Calls.{bytesIn}
+use Rattle.definitions.specs.Pages.{pageSize, payloadTo}
+use Rattle.buffers.specs.Words.{over}
+use Rattle.definitions.specs.Calls.{bytesIn}
 use Rattle.pages.proofs.Reading.{size-is, ready-size, ready, turn-short, turn-fits, turn-more, turn-over, unpack-law, bytes-none, bytes-length}
 use Rattle.pages.proofs.unpack.Statement.{statement}
 use Rattle.pages.proofs.unpack.Tie as tie
@@ -21,7 +21,7 @@ abbrev μ-loop : tie.MeasureT-loop
 loop-holds : tie.Need-loop-holds Inv-loop μ-loop
 loop-holds c =
     let a = c .before .before .args in
-    (search needs, (bytes-length (a .file .now) (length (a .file .now) / 512), (refl, bytes-none (a .file .now) (a .out .now) (length (a .file .now) / 512))))
+    (search needs, (bytes-length (a .file .now) (length (a .file .now) / pageSize), (refl, bytes-none (a .file .now) (a .out .now) (length (a .file .now) / pageSize))))
 
 page-in-requires : tie.Need-page-in-requires Inv-loop μ-loop
 page-in-requires c κs =
@@ -34,7 +34,7 @@ payload-requires c κs =
     let s = at-loop .before .before .before in
     let file = s .args .file .now in
     let room = length (s .args .out .now) in
-    (c .page-in .ensures .1, turn-short file (length file / 512) (at-loop .loop .k) room (omega arith) (ready file room (s .pre)) (c .page-in .result .now) (c .page-in .ensures .0))
+    (c .page-in .ensures .1, turn-short file (length file / pageSize) (at-loop .loop .k) room (omega arith) (ready file room (s .pre)) (c .page-in .result .now) (c .page-in .ensures .0))
 
 copy-bytes-at-requires : tie.Need-copy-bytes-at-requires Inv-loop μ-loop
 copy-bytes-at-requires c κs =
@@ -43,7 +43,7 @@ copy-bytes-at-requires c κs =
     let s = at-loop .before .before .before in
     let file = s .args .file .now in
     let room = length (s .args .out .now) in
-    omega (arith, turn-fits file (length file / 512) (at-loop .loop .k) room (omega arith) (ready file room (s .pre)) (at-page .page-in .result .now) (at-page .page-in .ensures .0) (c .before .payload .result .now) (c .before .payload .ensures))
+    omega (arith, turn-fits file (length file / pageSize) (at-loop .loop .k) room (omega arith) (ready file room (s .pre)) (at-page .page-in .result .now) (at-page .page-in .ensures .0) (c .before .payload .result .now) (c .before .payload .ensures))
 
 add-at : tie.Need-add-at Inv-loop μ-loop
 add-at c =
@@ -52,7 +52,7 @@ add-at c =
     let s = at-loop .before .before .before in
     let file = s .args .file .now in
     let room = length (s .args .out .now) in
-    omega (arith, turn-fits file (length file / 512) (at-loop .loop .k) room (omega arith) (ready file room (s .pre)) (at-page .page-in .result .now) (at-page .page-in .ensures .0) (c .before .before .before .before .payload .result .now) (c .before .before .before .before .payload .ensures))
+    omega (arith, turn-fits file (length file / pageSize) (at-loop .loop .k) room (omega arith) (ready file room (s .pre)) (at-page .page-in .result .now) (at-page .page-in .ensures .0) (c .before .before .before .before .payload .result .now) (c .before .before .before .before .payload .ensures))
 
 loop-again : tie.Need-loop-again Inv-loop μ-loop
 loop-again c =
@@ -64,7 +64,7 @@ loop-again c =
     let s = at-loop .before .before .before in
     let file = s .args .file .now in
     let out = s .args .out .now in
-    let P = length file / 512 in
+    let P = length file / pageSize in
     let part = at-part .payload .result .now in
     let f = ready file (length out) (s .pre) in
     let m = turn-more file P (l .k) (length out) (omega arith) f (at-page .page-in .result .now) (at-page .page-in .ensures .0) part (at-part .payload .ensures) in (

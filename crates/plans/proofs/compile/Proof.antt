@@ -1,23 +1,26 @@
 -- `plans::compile` meets its contract: the file's rule is opened, and its plan laid down if there is room. Assumes nothing.
-use Prim.Native.Nat.{_+_, _-_}
+use Prim.Native.Nat.{ℕ}
+use mathlib.Core.Path.{ap, _∙_}
 use borrow.Author.Needs.{needs}
 use native.Mathlib.Omega.{arith}
 use lib.ListN.{length-take}
+use Rattle.definitions.specs.Plan.{planSize}
 use Rattle.rules.proofs.Laws.{told}
 use Rattle.rules.proofs.FileLaws.{wrote-no, wrote-short}
 use Rattle.plans.proofs.Compiling.{compile-not, ready, compile-size, compile-room, compile-all}
 use Rattle.plans.proofs.compile.Statement.{statement}
 use Rattle.plans.proofs.compile.Tie as tie
 
-add-size : tie.Need-add-size
-add-size c =
-    let n = c .before .before .before .before in
-    omega (arith, c .head-size .ensures, c .before .byte .ensures .1, n .before .before .before .«open» .ensures .short _ (n .n .given .1))
+plan-size-requires : tie.Need-plan-size-requires
+plan-size-requires c κs =
+    let n = c .before .before .before in
+    (c .byte .ensures .1, n .before .before .before .«open» .ensures .short _ (n .n .given .1))
 
 returns : tie.Need-returns
 returns c =
-    let n = c .before .before .before .before .before in
-    wrote-short _ _ _ (compile-size (ready _ (n .before .before .before .«open» .ensures) (n .n .given .1)) (c .before .head-size .result + n .n .given .0 .0 - 4) (omega (arith, c .before .head-size .ensures, c .before .before .byte .ensures .0))) (omega arith)
+    let size = c .before .before in
+    let n = size .before .before .before .before in
+    rw (c .refuse .ensures) (wrote-short _ _ _ (compile-size (ready _ (n .before .before .before .«open» .ensures) (n .n .given .1)) (size .plan-size .result) (size .plan-size .ensures ∙ ap (λ (b : ℕ). planSize b (n .n .given .0 .0)) (size .before .byte .ensures .0))) (omega arith))
 
 array-share-prefix-rule : tie.Need-array-share-prefix-rule
 array-share-prefix-rule c =
@@ -31,17 +34,19 @@ slice-aggregate-put-plan c =
 
 put-plan-requires : tie.Need-put-plan-requires
 put-plan-requires c κs =
-    let n = c .before .before .before .before .before .before .before in
+    let size = c .before .before .before in
+    let n = size .before .before .before .before in
     let d = ready _ (n .before .before .before .«open» .ensures) (n .n .given .1) in
-    (d .ruled, compile-room d (c .before .before .before .head-size .result + n .n .given .0 .0 - 4) (omega (arith, c .before .before .before .head-size .ensures, c .before .before .before .before .byte .ensures .0)) _ (omega arith))
+    (d .ruled, compile-room d (size .plan-size .result) (size .plan-size .ensures ∙ ap (λ (b : ℕ). planSize b (n .n .given .0 .0)) (size .before .byte .ensures .0)) _ (omega arith))
 
 returns-2 : tie.Need-returns-2
 returns-2 c = wrote-no _ _ _ (compile-not _ _ (told (c .before .f .given .1) (c .before .before .before .before .«open» .ensures .reply)))
 
 returns-3 : tie.Need-returns-3
 returns-3 c =
-    let n = c .before .before .before .before .before .before .before .before .before .before in
-    compile-all (ready _ (n .before .before .before .«open» .ensures) (n .n .given .1)) _ (omega (arith, c .before .before .before .before .before .before .head-size .ensures, c .before .before .before .before .before .before .before .byte .ensures .0)) _ _ (omega arith) (c .before .before .put-plan .ensures)
+    let size = c .before .before .before .before .before .before in
+    let n = size .before .before .before .before in
+    compile-all (ready _ (n .before .before .before .«open» .ensures) (n .n .given .1)) (size .plan-size .result) (size .plan-size .ensures ∙ ap (λ (b : ℕ). planSize b (n .n .given .0 .0)) (size .before .byte .ensures .0)) _ _ (omega arith) (c .before .before .put-plan .ensures)
 
 pub compile-spec : {M : Type 1} → statement M
 compile-spec =
@@ -53,9 +58,8 @@ compile-spec =
     (λ c. search needs)
     (λ c. search needs)
     (λ c κs. search needs)
+    plan-size-requires
     (λ c κs. search needs)
-    add-size
-    (λ c. search needs)
     returns
     array-share-prefix-rule
     slice-aggregate-put-plan

@@ -13,17 +13,25 @@ byte-requires-2 c κs = omega (arith, ruled-long _ (c .before .before .before .p
 
 columns-requires : tie.Need-columns-requires
 columns-requires c κs =
-    let s = c .before .before .before .before .before .before .before .before .before .before .before .before .before .before in
-    (omega (arith, c .before .before .before .before .before .before .before .before .before .before .before .byte .ensures .0, ruled-blocks _ (s .pre .0) .1), omega (arith, c .before .before .before .before .before .before .before .before .before .before .byte2 .ensures .0, ruled-variables _ (s .pre .0)))
+    let v = c .before .before .before .before .before .before .before .before .before .before in
+    let n = v .before in
+    let ruled = n .before .before .before .pre .0 in
+    (omega (arith, n .byte .ensures .0, ruled-blocks _ ruled .1), omega (arith, v .byte2 .ensures .0, ruled-variables _ ruled))
 
 lay-requires : tie.Need-lay-requires
 lay-requires c κs =
-    let s = c .before .before .before .before .before .before .before .before .before .before .before .before .before .before .before .before .before .before .before .before .before .before in
-    ruled-room _ (s .pre .0) _ _ _ (c .before .before .before .before .before .before .before .before .before .before .before .before .before .before .before .before .before .before .before .byte .ensures .0) (c .before .before .before .before .before .before .before .before .before .before .before .before .before .before .before .before .before .flow-of .ensures) (s .pre .1)
+    let columns = c .before .before .before .before .before .before .before .before in
+    let flow = columns .before .before .before .before .before .before .before .before .before .before in
+    let n = flow .before .before in
+    let pre = n .before .before .before .pre in
+    ruled-room _ (pre .0) _ _ _ (n .byte .ensures .0) (flow .flow-of .ensures) (pre .1)
 
 returns : tie.Need-returns
 returns c = λ r m e.
-    c .before .before .lay .ensures r (laid _ r m e (c .before .before .before .before .before .before .before .before .before .before .before .before .before .before .before .before .before .before .before .before .before .before .byte .ensures .0) (c .before .before .before .before .before .before .before .before .before .before .before .before .before .before .before .before .before .before .before .before .before .byte2 .ensures .0) (c .before .before .before .before .before .before .before .before .before .before .before .before .before .before .before .before .before .before .before .before .flow-of .ensures r m e) (c .before .before .before .before .before .before .before .before .before .before .columns .ensures))
+    let columns = c .before .before .before .before .before .before .before .before .before .before .before in
+    let flow = columns .before .before .before .before .before .before .before .before .before .before in
+    let v = flow .before in
+    c .before .before .lay .ensures r (laid _ r m e (v .before .byte .ensures .0) (v .byte2 .ensures .0) (flow .flow-of .ensures r m e) (columns .columns .ensures))
 
 pub put-plan-spec : {M : Type 1} → statement M
 put-plan-spec =

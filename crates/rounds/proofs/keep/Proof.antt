@@ -5,7 +5,7 @@ use native.Mathlib.Omega.{arith}
 use native.Mathlib.Nat.{div-one}
 use mathlib.Core.Path.{_≡_, refl, sym, _∙_}
 use Rattle.columns.specs.OnPlan.{kept}
-use Rattle.paper.specs.Plan.{bitOf}
+use Rattle.definitions.specs.Plan.{bitOf}
 use Rattle.rounds.proofs.Keeping.{halved, kept-out, kept-in}
 use Rattle.rounds.proofs.keep.Statement.{statement}
 use Rattle.rounds.proofs.keep.Tie as tie

@@ -3,7 +3,7 @@ use borrow.Author.Needs.{needs}
 use mir.Facts.{toZ-ofZ}
 use mir.Syntax.{w32}
 use mathlib.Core.Path.{_∙_}
-use Rattle.paper.specs.Values.{negation}
+use Rattle.definitions.specs.Values.{negation}
 use Rattle.rounds.proofs.Answers.{placed-value}
 use Rattle.rounds.proofs.negate_at.Statement.{statement}
 use Rattle.rounds.proofs.negate_at.Tie as tie

@@ -3,7 +3,7 @@ use borrow.Author.Needs.{needs}
 use mir.Facts.{toZ-ofZ}
 use mir.Syntax.{w32}
 use mathlib.Core.Path.{_∙_}
-use Rattle.paper.specs.Meaning.{applied}
+use Rattle.definitions.specs.Meaning.{applied}
 use Rattle.values.specs.Tags.{operatorOf}
 use Rattle.rounds.proofs.Answers.{placed-value}
 use Rattle.rounds.proofs.operate_at.Statement.{statement}

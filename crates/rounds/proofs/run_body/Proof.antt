@@ -23,7 +23,7 @@ abbrev rest : (l : tie.At-loop Inv-loop μ-loop) → let a = l .before .args in 
 rest l = l .loop .inv (l .before .pre .0 .1)
 
 loop-holds : tie.Need-loop-holds Inv-loop μ-loop
-loop-holds c = λ h. record { here = h; blocks = refl; block = refl; next = refl; ending = refl; left = refl; within = c .pre .1 .0; room = c .pre .1 .1; size = refl; stays = refl }
+loop-holds c = λ h. record { here = h; targets = refl; next = refl; ending = refl; left = refl; within = c .pre .1 .0; room = c .pre .1 .1; size = refl; stays = refl }
 
 tag-there : (l : tie.At-loop Inv-loop μ-loop) → l .loop .i < 4064
 tag-there l = omega (arith, laws.rest-there (rest l), l .before .pre .0 .0 .1)

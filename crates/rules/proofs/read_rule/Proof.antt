@@ -1,5 +1,6 @@
 -- `rules::read_rule` meets its contract: each return is a law of `RuleLaws.antt` at what the callees and the last test say. Assumes nothing.
 use native.Mathlib.Omega.{arith}
+use mathlib.Core.Path.{_∙_}
 use borrow.Author.Needs.{needs}
 use Rattle.rules.proofs.Laws.{told}
 use Rattle.rules.proofs.RuleLaws.{header-there, rule-headless, rule-refused, rule-longer, rule-whole}
@@ -32,10 +33,11 @@ returns-2 c =
 
 returns-3 : tie.Need-returns-3
 returns-3 c =
-    let n = c .before .before in
+    let test = c .before in
+    let n = test .before .before in
     let all = n .before .before in
     let head = all .before .before .before in
-    rule-longer _ _ (told (head .before .before .read-header .ensures) (head .enum-told .given .1)) _ (told (all .read-blocks .ensures) (n .n .given .1)) (c .if1 .taken)
+    c .misread .ensures ∙ rule-longer _ _ (told (head .before .before .read-header .ensures) (head .enum-told .given .1)) _ (told (all .read-blocks .ensures) (n .n .given .1)) (test .if1 .taken)
 
 returns-4 : tie.Need-returns-4
 returns-4 c =
@@ -47,4 +49,4 @@ returns-4 c =
 pub read-rule-spec : {M : Type 1} → statement M
 read-rule-spec =
     tie.close
-    (tie.spec (λ c κs. search needs) (λ c. search needs) (λ c. search needs) read-variables read-blocks (λ c κs. search needs) (λ c. search needs) (λ c. search needs) returns returns-2 returns-3 returns-4)
+    (tie.spec (λ c κs. search needs) (λ c. search needs) (λ c. search needs) read-variables read-blocks (λ c κs. search needs) (λ c. search needs) (λ c. search needs) (λ c κs. search needs) returns returns-2 returns-3 returns-4)

@@ -6,7 +6,7 @@ use native.Mathlib.Omega.{arith}
 use Prim.Native.Nat.{_+_, _*_}
 use lib.IntN.{pos}
 use lib.ListN.{length, getD}
-use Rattle.paper.specs.Finder.{isNumber}
+use Rattle.definitions.specs.Finder.{isNumber}
 use Rattle.batches.proofs.Finds.{is-within, read-number, small, Within}
 use Rattle.batches.specs.Limits.{within}
 use Rattle.tap.proofs.Places.{place-none, place-record, place-line, place-lost}

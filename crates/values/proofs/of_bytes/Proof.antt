@@ -1,7 +1,7 @@
 -- `values::of_bytes` meets its contract: it is its two callees' contracts, one after the other. Assumes nothing.
 use mathlib.Core.Path.{_∙_, ap}
 use borrow.Author.Needs.{needs}
-use Rattle.paper.specs.Grammar.{twos}
+use Rattle.definitions.specs.Grammar.{twos}
 use Rattle.values.proofs.of_bytes.Statement.{statement}
 use Rattle.values.proofs.of_bytes.Tie as tie
 

@@ -4,7 +4,7 @@ use borrow.Author.Needs.{needs}
 use mathlib.Core.Path.{sym, ap}
 use mir.Facts.{toZ-ofZ}
 use mir.Syntax.{w64}
-use Rattle.paper.specs.Values.{outcomeOf, settled}
+use Rattle.definitions.specs.Values.{outcomeOf, settled}
 use Rattle.values.proofs.Laws.{in-range, settled-fits}
 use Rattle.values.proofs.settle.Statement.{statement}
 use Rattle.values.proofs.settle.Tie as tie

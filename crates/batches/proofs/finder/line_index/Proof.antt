@@ -4,7 +4,7 @@ use mathlib.Core.Path.{_≡_, sym, ap}
 use native.Mathlib.Nat.{sub-zero}
 use native.Mathlib.Omega.{arith}
 use borrow.Author.Needs.{needs}
-use Rattle.paper.specs.Finder.{lineIndex}
+use Rattle.definitions.specs.Finder.{lineIndex}
 use Rattle.batches.proofs.Finds.{line-hit, line-whole, line-miss, line-none}
 use Rattle.batches.proofs.finder.line_index.Statement.{statement}
 use Rattle.batches.proofs.finder.line_index.Tie as tie

@@ -5,7 +5,7 @@ use mathlib.Core.Logic.{⊎-elim}
 use mir.Facts.{toZ-ofZ}
 use native.Mathlib.Omega.{arith}
 use lib.ListN.{drop}
-use Rattle.paper.specs.Plan.{bitOf}
+use Rattle.definitions.specs.Plan.{bitOf}
 use lib.ListN.{length}
 use Rattle.columns.specs.OnPlan.{spread}
 use Rattle.batches.proofs.Lines.{spread-none, spread-one, spread-skip, column-in}

@@ -4,7 +4,7 @@ use mathlib.Core.Logic.{⊎-elim}
 use mir.Facts.{toZ-ofZ}
 use Prim.Native.Nat.{_≤_, _-_}
 use native.Mathlib.Omega.{arith}
-use Rattle.paper.specs.Plan.{bitOf}
+use Rattle.definitions.specs.Plan.{bitOf}
 use lib.ListN.{length}
 use Rattle.batches.proofs.Lines.{Put, put-none, put-one, put-skip, column-in}
 use Rattle.batches.proofs.layout.put_columns.Statement.{statement}

@@ -3,7 +3,7 @@ use Prim.Native.Nat.{_≤_, _-_}
 use mathlib.Core.Path.{_≡_, refl, _∙_}
 use native.Mathlib.Omega.{arith}
 use lib.ListN.{length, take}
-use Rattle.paper.specs.Direct.{after}
+use Rattle.definitions.specs.Direct.{after}
 use Rattle.plans.specs.Accepted.{ruleIn}
 use Rattle.batches.specs.Table.{Held, Went}
 use Rattle.batches.proofs.Carries.{went-none, went-next, went-early, went-all, few, block-below}

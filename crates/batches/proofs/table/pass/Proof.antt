@@ -5,7 +5,7 @@ use mathlib.Core.Logic.{⊎-elim}
 use native.Mathlib.Omega.{arith}
 use native.Mathlib.Nat.{mul-le-mul-right}
 use lib.ListN.{length}
-use Rattle.paper.specs.Direct.{after}
+use Rattle.definitions.specs.Direct.{after}
 use Rattle.plans.specs.Accepted.{ruleIn}
 use Rattle.batches.specs.Table.{Table}
 use Rattle.batches.proofs.Passes.{Between, few-live, mid-start, ready, mid-row, mid-room, mid-turn, mid-end, one-more, no-more}

@@ -4,7 +4,7 @@ use mathlib.Core.Path.{_≡_, refl, _∙_}
 use mathlib.Core.List.{_++_}
 use native.Mathlib.Omega.{arith}
 use lib.ListN.{length, drop}
-use Rattle.paper.specs.Batch.{startsOf}
+use Rattle.definitions.specs.Batch.{startsOf}
 use Rattle.batches.specs.Layout.{width, linesIn}
 use Rattle.batches.specs.Runs.{Beginning}
 use Rattle.batches.proofs.Finds.{small}

@@ -13,7 +13,7 @@ copy-bytes-at-requires : tie.Need-copy-bytes-at-requires
 copy-bytes-at-requires c κs = simp length-take (omega arith)
 
 put-entries-requires : tie.Need-put-entries-requires
-put-entries-requires c κs = let p = c .before .before .before .before .before .before .before .before .before .before .before .before .before .before .pre in (p .few, (omega arith, p .placed))
+put-entries-requires c κs = let p = c .before .before .before .before .before .before .before .before .before .before .before .before .before .before .pre in (p .few, (omega arith, p .inside))
 
 returns : tie.Need-returns
 returns c =

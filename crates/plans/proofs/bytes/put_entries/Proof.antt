@@ -4,9 +4,9 @@ use mathlib.Core.Path.{_≡_, refl, ap, _∙_}
 use mathlib.Core.List.{List}
 use native.Mathlib.Omega.{arith}
 use lib.ListN.{length}
-use Rattle.words.specs.Words.{over}
-use Rattle.paper.specs.Rule.{Rule}
-use Rattle.paper.specs.Plan.{entriesTo}
+use Rattle.buffers.specs.Words.{over}
+use Rattle.definitions.specs.Rule.{Rule}
+use Rattle.definitions.specs.Plan.{entriesTo}
 use Rattle.plans.specs.Laid.{Laid}
 use Rattle.plans.proofs.Laying.{nothing, one-entry}
 use Rattle.plans.proofs.bytes.put_entries.Statement.{statement}

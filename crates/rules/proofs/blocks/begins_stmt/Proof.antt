@@ -6,7 +6,7 @@ use lib.Dec.{eqb}
 use lib.ListN.{List·getD-eq-default}
 use borrow.Author.Needs.{needs}
 use borrow.Author.Tests.{eq-eqb, ne-eqb}
-use Rattle.paper.specs.Grammar.{emitTag, noStmt, stmtTag}
+use Rattle.definitions.specs.Grammar.{emitTag, noStmt, stmtTag}
 use Rattle.rules.specs.Readings.{isStmt, begins}
 use Rattle.rules.proofs.blocks.begins_stmt.Statement.{statement}
 use Rattle.rules.proofs.blocks.begins_stmt.Tie as tie

@@ -5,7 +5,7 @@ use mathlib.Core.Path.{_≡_, refl, sym, _∙_}
 use native.Mathlib.Omega.{arith}
 use lib.ListN.{length}
 use borrow.Author.Needs.{needs}
-use Rattle.paper.specs.Grammar.{readOf, blockAt}
+use Rattle.definitions.specs.Grammar.{readOf, blockAt}
 use Rattle.rules.proofs.Laws.{told}
 use Rattle.rules.proofs.Sound.{sound-next}
 use Rattle.rules.proofs.Accepted.{stmt-sound}
@@ -14,10 +14,10 @@ use Rattle.rules.proofs.blocks.read_block.Statement.{statement}
 use Rattle.rules.proofs.blocks.read_block.Tie as tie
 
 abbrev Inv-loop : tie.InvT-loop
-Inv-loop s at v blocks block next₀ next = readOf (blockAt blocks block v s at) ≡ readOf (blockAt blocks block v s next)
+Inv-loop s at v targets next₀ next = readOf (blockAt targets v s at) ≡ readOf (blockAt targets v s next)
 
 abbrev μ-loop : tie.MeasureT-loop
-μ-loop s at v blocks block next₀ next = length s - next
+μ-loop s at v targets next₀ next = length s - next
 
 loop-less : tie.Need-loop-less Inv-loop μ-loop
 loop-less c =
@@ -31,19 +31,19 @@ loop-again c =
     let n = c .before in
     let first = n .before .before in
     let test = first .before .before in
-    test .before .loop .inv ∙ block-goes _ _ _ _ _ _ (told (test .begins-stmt .ensures) (first .before .if1 .taken)) (told (first .read-stmt .ensures) (n .n .given .1))
+    test .before .loop .inv ∙ block-goes _ _ _ _ _ (told (test .begins-stmt .ensures) (first .before .if1 .taken)) (told (first .read-stmt .ensures) (n .n .given .1))
 
 returns : tie.Need-returns Inv-loop μ-loop
 returns c =
     let e = c .before in
     let first = e .before .before in
     let test = first .before .before in
-    sym (test .before .loop .inv ∙ block-refused _ _ _ _ _ _ (told (test .begins-stmt .ensures) (first .before .if1 .taken)) (told (first .read-stmt .ensures) (e .e .given .1)))
+    sym (test .before .loop .inv ∙ block-refused _ _ _ _ _ (told (test .begins-stmt .ensures) (first .before .if1 .taken)) (told (first .read-stmt .ensures) (e .e .given .1)))
 
 returns-2 : tie.Need-returns-2 Inv-loop μ-loop
 returns-2 c =
     let test = c .before .before in
-    c .read-end .ensures ∙ sym (test .before .loop .inv ∙ block-done _ _ _ _ _ (told (test .begins-stmt .ensures) (c .before .if1 .left)))
+    c .read-end .ensures ∙ sym (test .before .loop .inv ∙ block-done _ _ _ _ (told (test .begins-stmt .ensures) (c .before .if1 .left)))
 
 pub read-block-spec : {M : Type 1} → statement M
 read-block-spec =

@@ -1,5 +1,4 @@
 -- `rules::blocks::read_stmt` meets its contract: each return is a law of `BlockLaws.antt` at what the tag and the callees say. Assumes nothing.
-use mathlib.Core.Path.{refl}
 use native.Mathlib.Omega.{arith}
 use borrow.Author.Needs.{needs}
 use Rattle.rules.proofs.Laws.{told, goes, stays, tagged}
@@ -40,11 +39,12 @@ returns-4 c =
 
 returns-5 : tie.Need-returns-5
 returns-5 c =
-    let tag = c .before .before in
-    stmt-bad _ _ _ _ _ (tagged _ _ _ _ (told (tag .before .before .read-tag .ensures) (tag .tag .given .1))) (c .match2 .rest .0 .1) (c .match2 .rest .1) refl
+    let rest = c .before in
+    let tag = rest .before .before in
+    stmt-bad _ _ _ _ _ (tagged _ _ _ _ (told (tag .before .before .read-tag .ensures) (tag .tag .given .1))) (rest .match2 .rest .0 .1) (rest .match2 .rest .1) (c .misread .ensures)
 
 pub read-stmt-spec : {M : Type 1} → statement M
 read-stmt-spec =
     tie.close
-    (tie.spec (λ c κs. search needs) (λ c. search needs) (λ c. search needs) add-next (λ c κs. search needs) (λ c. search needs) (λ c κs. search needs) (λ c. search needs) (λ c κs. search needs)
+    (tie.spec (λ c κs. search needs) (λ c. search needs) (λ c. search needs) add-next (λ c κs. search needs) (λ c. search needs) (λ c κs. search needs) (λ c. search needs) (λ c κs. search needs) (λ c κs. search needs)
     returns returns-2 returns-3 returns-4 returns-5)

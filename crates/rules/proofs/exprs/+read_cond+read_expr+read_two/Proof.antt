@@ -1,8 +1,7 @@
 -- The proof of the cycle of calls {read_cond, read_expr, read_two}. The measure is twice the levels left, and one more for `read_two`, which calls `read_expr` at the levels that it has.
 -- Each return is a law of `Laws.antt` at what the tests and the callees say. Assumes nothing.
 use Prim.Native.Nat.{ℕ, _+_, _*_, _<_}
-use mathlib.Core.Path.{refl}
-use mathlib.Core.Logic.{inl, inr}
+use mathlib.Core.Logic.{inl, inr, ⊎-elim}
 use native.Mathlib.Omega.{arith}
 use borrow.Author.Needs.{needs}
 use borrow.Fn.Kinds.{In}
@@ -17,6 +16,7 @@ use Rattle.rules.proofs.exprs.+read_cond+read_expr+read_two.Lts-read_ex
 use Rattle.rules.proofs.exprs.read_two.Reads as read-two
 use Rattle.rules.proofs.exprs.read_two.Kinds as read-two-kinds
 use Rattle.rules.proofs.exprs.+read_cond+read_expr+read_two.Lts-read_two as two-lts
+use Rattle.definitions.proofs.misread.Reads as misread-reads
 use Rattle.rules.proofs.exprs.read_constant.Reads as read-constant-reads
 use Rattle.rules.proofs.exprs.read_tag.Reads as read-tag-reads
 use Rattle.rules.proofs.exprs.read_variable.Reads as read-variable-reads
@@ -53,10 +53,10 @@ module _ (t : ℕ) where
   two-below = and 1 read-two-kinds.ps (falls 1 read-two-kinds.ps _<_ μ-two t) read-two.Pre
 
   abbrev cond-calls : cond-lts.Claims
-  cond-calls = (read-tag-reads.Asked, read-tag-reads.Learnt, cond-below, read-cond.Post, two-below, read-two.Post)
+  cond-calls = (read-tag-reads.Asked, read-tag-reads.Learnt, cond-below, read-cond.Post, two-below, read-two.Post, misread-reads.Asked, misread-reads.Learnt)
 
   abbrev expr-calls : expr-lts.Claims
-  expr-calls = (read-tag-reads.Asked, read-tag-reads.Learnt, read-constant-reads.Asked, read-constant-reads.Learnt, read-variable-reads.Asked, read-variable-reads.Learnt, expr-below, read-expr.Post, cond-below, read-cond.Post, two-below, read-two.Post)
+  expr-calls = (read-tag-reads.Asked, read-tag-reads.Learnt, read-constant-reads.Asked, read-constant-reads.Learnt, read-variable-reads.Asked, read-variable-reads.Learnt, expr-below, read-expr.Post, cond-below, read-cond.Post, two-below, read-two.Post, misread-reads.Asked, misread-reads.Learnt)
 
   abbrev two-calls : two-lts.Claims
   two-calls = (expr-below, read-expr.Post)
@@ -112,12 +112,9 @@ module _ (t : ℕ) where
       (stays _ _ _ (told (first .read-cond2 .ensures) (e .e2 .given .1)))
 
   cond-6 : cond-lts.Need-returns-6 cond-calls cond-at read-cond.Post
-  cond-6 c = cond-bad _ _ _ _ _ _ (cond-tag (c .before .before .before)) (inl (c .if1 .taken)) refl
-
-  cond-7 : cond-lts.Need-returns-7 cond-calls cond-at read-cond.Post
-  cond-7 c =
-      let rest = c .before .before .before in
-      cond-bad _ _ _ _ _ _ (cond-tag (rest .before .before)) (inr (c .if3 .left)) refl
+  cond-6 c =
+      let join = c .before in
+      cond-bad _ _ _ _ _ _ (cond-tag (join .before .before .before)) (⊎-elim (λ w. inl (w .taken)) (λ w. inr (w .2 .left)) (join .if1 .came)) (c .misread .ensures)
 
   -- ---- read_expr
   -- where the tag has been read
@@ -163,21 +160,19 @@ module _ (t : ℕ) where
       expr-op _ _ _ _ _ _ (expr-tag (rest .before .before)) (past _ _ (past _ _ (past _ _ (low .if1 .left) (none .0 .0 .0 .1)) (none .0 .0 .1)) (none .0 .1)) (c .before .if2 .taken) (c .read-two2 .ensures)
 
   expr-8 : expr-lts.Need-returns-8 expr-calls expr-at read-expr.Post
-  expr-8 c = expr-bad _ _ _ _ _ _ (expr-tag (c .before .before .before)) (inl (c .if1 .taken)) refl
-
-  expr-9 : expr-lts.Need-returns-9 expr-calls expr-at read-expr.Post
-  expr-9 c =
-      let rest = c .before .before in
-      expr-bad _ _ _ _ _ _ (expr-tag (rest .before .before)) (inr (past _ _ (c .if2 .left) (rest .match2 .rest .1))) refl
+  expr-8 c =
+      let join = c .before in
+      let rest = join .before in
+      expr-bad _ _ _ _ _ _ (expr-tag (rest .before .before)) (⊎-elim (λ w. inl (w .taken)) (λ w. inr (past _ _ (w .1 .left) (rest .match2 .rest .1))) (join .if1 .came)) (c .misread .ensures)
 
 pub +read-cond+read-expr+read-two-spec : {M : Type 1} → statement M
 +read-cond+read-expr+read-two-spec =
     close μ-cond μ-expr μ-two
     (λ t. cond-lts.spec (cond-calls t) (cond-at t) read-cond.Post
-    (λ c κs. search needs) (λ c. search needs) (λ c. search needs) (λ c. omega (arith, cond-tag t (c .before))) (λ c. omega (arith, cond-tag t (c .before))) (λ c κs. omega (arith, cond-tag t (c .before .before))) (λ c κs. omega (arith, cond-tag t (c .before .before .before .before))) (λ c κs. omega (arith, cond-tag t (c .before .before .before .before .before))) (λ c. search needs) (λ c κs. omega (arith, cond-tag t (c .before .before .before .before .before .before .before .before .before))) (λ c. search needs)
-    (cond-1 t) (cond-2 t) (cond-3 t) (cond-4 t) (cond-5 t) (cond-6 t) (cond-7 t))
+    (λ c κs. search needs) (λ c. search needs) (λ c. search needs) (λ c. omega (arith, cond-tag t (c .before))) (λ c. omega (arith, cond-tag t (c .before))) (λ c κs. omega (arith, cond-tag t (c .before .before))) (λ c κs. omega (arith, cond-tag t (c .before .before .before .before))) (λ c κs. omega (arith, cond-tag t (c .before .before .before .before .before))) (λ c. search needs) (λ c κs. omega (arith, cond-tag t (c .before .before .before .before .before .before .before .before .before))) (λ c. search needs) (λ c κs. search needs)
+    (cond-1 t) (cond-2 t) (cond-3 t) (cond-4 t) (cond-5 t) (cond-6 t))
     (λ t. expr-lts.spec (expr-calls t) (expr-at t) read-expr.Post
-    (λ c κs. search needs) (λ c. search needs) (λ c. search needs) (λ c. omega (arith, expr-tag t (c .before))) (λ c. omega (arith, expr-tag t (c .before))) (λ c κs. search needs) (λ c κs. search needs) (λ c κs. omega (arith, expr-tag t (c .before .before))) (λ c κs. omega (arith, expr-tag t (c .before .before))) (λ c. search needs) (λ c κs. omega (arith, expr-tag t (c .before .before .before .before .before .before))) (λ c. search needs) (λ c κs. omega (arith, expr-tag t (c .before .before .before .before)))
-    (expr-1 t) (expr-2 t) (expr-3 t) (expr-4 t) (expr-5 t) (expr-6 t) (expr-7 t) (expr-8 t) (expr-9 t))
+    (λ c κs. search needs) (λ c. search needs) (λ c. search needs) (λ c. omega (arith, expr-tag t (c .before))) (λ c. omega (arith, expr-tag t (c .before))) (λ c κs. search needs) (λ c κs. search needs) (λ c κs. omega (arith, expr-tag t (c .before .before))) (λ c κs. omega (arith, expr-tag t (c .before .before))) (λ c. search needs) (λ c κs. omega (arith, expr-tag t (c .before .before .before .before .before .before))) (λ c. search needs) (λ c κs. omega (arith, expr-tag t (c .before .before .before .before))) (λ c κs. search needs)
+    (expr-1 t) (expr-2 t) (expr-3 t) (expr-4 t) (expr-5 t) (expr-6 t) (expr-7 t) (expr-8 t))
     (λ t. two-lts.spec (two-calls t) (two-at t) read-two.Post
     (λ c κs. omega arith) (λ c. search needs) (λ c κs. omega arith) (λ c. search needs) (two-next t) (two-refused t))

@@ -3,13 +3,13 @@ use native.Mathlib.Omega.{arith}
 use mathlib.Core.Logic.{⊎-elim}
 use borrow.Author.Needs.{needs}
 use borrow.Author.Tests.{lt-ltb, le-ltb, le-leb, lt-leb}
-use Rattle.paper.specs.Grammar.{readOf}
+use Rattle.definitions.specs.Grammar.{readOf}
 use Rattle.rules.proofs.exprs.read_among.Statement.{statement}
 use Rattle.rules.proofs.exprs.read_among.Tie as tie
 
 returns : tie.Need-returns
 unfolding readOf
-returns c = rw (le-ltb _ _ (c .if1 .taken))
+returns c = simp (c .misread .ensures, le-ltb _ _ (c .before .if1 .taken))
 
 returns-2 : tie.Need-returns-2
 unfolding readOf
@@ -18,11 +18,13 @@ returns-2 c = simp (lt-ltb _ _ (c .before .before .before .if1 .left), le-leb _ 
 returns-3 : tie.Need-returns-3
 unfolding readOf
 returns-3 c =
+    let join = c .before in
+    let first = join .before .before in
     ⊎-elim
-    (λ w. simp (lt-ltb _ _ (c .before .before .if1 .left), le-leb _ _ (w .0 .taken), w .1 .left))
-    (λ w. simp (lt-ltb _ _ (c .before .before .if1 .left), lt-leb _ _ (w .left)))
-    (c .if2 .came)
+    (λ w. simp (c .misread2 .ensures, lt-ltb _ _ (first .if1 .left), le-leb _ _ (w .0 .taken), w .1 .left))
+    (λ w. simp (c .misread2 .ensures, lt-ltb _ _ (first .if1 .left), lt-leb _ _ (w .left)))
+    (join .if2 .came)
 
 pub read-among-spec : {M : Type 1} → statement M
 read-among-spec =
-    tie.close (tie.spec returns (λ c. search needs) (λ c. omega (arith, c .shared-slice-known .given (c .before .before .args .at))) (λ c. search needs) returns-2 returns-3)
+    tie.close (tie.spec (λ c κs. search needs) returns (λ c. search needs) (λ c. search needs) (λ c κs. search needs) returns-2 returns-3)

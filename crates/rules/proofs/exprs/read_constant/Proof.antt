@@ -7,7 +7,7 @@ use mathlib.Core.Bool.{true, false}
 use lib.Dec.{ltb, leb}
 use borrow.Author.Needs.{needs}
 use borrow.Author.Tests.{ltb-true, ltb-false, le-leb, lt-leb}
-use Rattle.paper.specs.Grammar.{readOf}
+use Rattle.definitions.specs.Grammar.{readOf}
 use Rattle.rules.proofs.exprs.read_constant.Statement.{statement}
 use Rattle.rules.proofs.exprs.read_constant.Tie as tie
 
@@ -23,11 +23,16 @@ module _ (at size : ℕ) where
 
 returns : tie.Need-returns
 unfolding readOf
-returns c = ⊎-elim (λ w. simp (tiny (c .before .args .at) _ (w .taken))) (λ w. simp (short _ _ (w .0 .left) (w .1 .taken))) (c .if1 .came)
+returns c =
+    let join = c .before in
+    ⊎-elim
+    (λ w. simp (c .misread .ensures, tiny (join .before .before .args .at) _ (w .taken)))
+    (λ w. simp (c .misread .ensures, short _ _ (w .0 .left) (w .1 .taken)))
+    (join .if1 .came)
 
 returns-2 : tie.Need-returns-2
 unfolding readOf
 returns-2 c = simp (there _ _ (c .before .if1 .left) (c .if2 .left))
 
 pub read-constant-spec : {M : Type 1} → statement M
-read-constant-spec = tie.close (tie.spec (λ c. search needs) returns (λ c. omega (arith, ltb-false)) returns-2)
+read-constant-spec = tie.close (tie.spec (λ c. search needs) (λ c κs. search needs) returns (λ c. omega (arith, ltb-false)) returns-2)

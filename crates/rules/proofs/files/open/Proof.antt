@@ -3,7 +3,7 @@ use Prim.Native.Nat.{_≤_}
 use borrow.Author.Needs.{needs}
 use native.Mathlib.Omega.{arith}
 use lib.ListN.{length-take}
-use Rattle.paper.specs.Grammar.{longest}
+use Rattle.definitions.specs.Grammar.{longest}
 use Rattle.pages.proofs.Reading.{scan-fits}
 use Rattle.rules.proofs.Laws.{told}
 use Rattle.rules.proofs.FileLaws.{scan-short, opened-not, opened-bad, opened-good}

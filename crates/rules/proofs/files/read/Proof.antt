@@ -3,14 +3,16 @@ use mathlib.Core.Path.{ap, _∙_}
 use borrow.Author.Needs.{needs}
 use native.Mathlib.Omega.{arith}
 use lib.ListN.{length-take}
-use Rattle.words.specs.Words.{over}
+use Rattle.buffers.specs.Words.{over}
 use Rattle.rules.proofs.Laws.{told}
 use Rattle.rules.proofs.FileLaws.{wrote-no, wrote-short, wrote-all}
 use Rattle.rules.proofs.files.read.Statement.{statement}
 use Rattle.rules.proofs.files.read.Tie as tie
 
 returns : tie.Need-returns
-returns c = wrote-short _ _ _ (told (c .before .before .n .given .1) (c .before .before .before .before .before .«open» .ensures .reply)) (omega arith)
+returns c =
+    let n = c .before .before .before in
+    rw (c .refuse .ensures) (wrote-short _ _ _ (told (n .n .given .1) (n .before .before .before .«open» .ensures .reply)) (omega arith))
 
 array-share-prefix-rule : tie.Need-array-share-prefix-rule
 array-share-prefix-rule c = omega (arith, c .before .before .before .before .before .before .«open» .ensures .short _ (c .before .before .before .n .given .1))
@@ -38,6 +40,7 @@ read-spec =
     (λ c κs. search needs)
     (λ c. search needs)
     (λ c. search needs)
+    (λ c κs. search needs)
     returns
     array-share-prefix-rule
     slice-aggregate-copy-bytes-at

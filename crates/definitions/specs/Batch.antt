@@ -1,0 +1,82 @@
+-- 01, A batch: the rows' states, a row's record, the LOOP table, the most rounds.
+use Prim.Native.Nat.{ℕ, zero, suc, _+_, _-_, _*_, max}
+use mathlib.Core.Bool.{Bool, cond}
+use mathlib.Core.List.{List, [], _∷_, _++_, map}
+use lib.Dec.{eqb}
+use lib.IntN.{pos}
+use lib.ListN.{length, take, drop, getD, replicate}
+use Rattle.definitions.specs.Values.{Val}
+use Rattle.definitions.specs.Rule.{Rule}
+use Rattle.definitions.specs.Direct.{State, unfinished, start, after}
+
+-- a word holds a value or a number from 0 up
+abbrev pub Word : Type 0
+Word = Val
+
+-- ---- the rows
+
+-- row n at its start: its arguments lie row after row among the values
+abbrev pub startAt : Rule → List Val → ℕ → State
+startAt r values n = start r (take (r .arguments) (drop (n * r .arguments) values))
+
+unfoldable pub startsOf : Rule → List Val → ℕ → List State
+startsOf r values zero = []
+startsOf r values (suc n) = startsOf r values n ++ (startAt r values n ∷ [])
+
+-- all rows, each after the direct run's N rounds
+abbrev pub statesOf : Rule → List Val → ℕ → ℕ → ℕ → List State
+statesOf r values rows N q = map (after r q N) (startsOf r values rows)
+
+-- ---- the result buffer
+
+abbrev pub recordSize : ℕ → ℕ
+recordSize q = 3 + q
+
+-- three numbers, then as many labels as the third says, then zeros up to the quota
+abbrev pub recordOf : ℕ → State → List Word
+recordOf q s = pos (s .status) ∷ pos (s .begun) ∷ pos (length (s .labels)) ∷ (s .labels ++ replicate (q - length (s .labels)) (pos 0))
+
+unfoldable pub recordsOf : ℕ → List State → List Word
+recordsOf q [] = []
+recordsOf q (s ∷ ss) = recordOf q s ++ recordsOf q ss
+
+-- ---- the working buffer
+
+-- how many numbers below v the set holds
+unfoldable pub countTo : ℕ → (ℕ → Bool) → ℕ
+countTo zero f = 0
+countTo (suc v) f = countTo v f + cond (f v) 1 0
+
+-- the values of the variables below v that the set holds, in rising order
+unfoldable pub columnsOf : ℕ → (ℕ → Bool) → List Val → List Word
+columnsOf zero f vars = []
+columnsOf (suc v) f vars = columnsOf v f vars ++ cond (f v) (getD vars v (pos 0) ∷ []) []
+
+-- a line's size, with so many columns
+abbrev pub lineSize : ℕ → ℕ
+lineSize columns = 2 + columns
+
+-- which row it is, where its next round begins, and what it knows
+abbrev pub lineOf : ℕ → (ℕ → Bool) → ℕ → State → List Word
+lineOf v lc row s = pos row ∷ pos (s .block) ∷ columnsOf v lc (s .vars)
+
+abbrev pub goesOn : State → Bool
+goesOn s = eqb (s .status) unfinished
+
+-- the lines of the unfinished rows, in row order; the rows are numbered from k on
+unfoldable pub linesFrom : ℕ → (ℕ → Bool) → ℕ → List State → List Word
+linesFrom v lc k [] = []
+linesFrom v lc k (s ∷ ss) = cond (goesOn s) (lineOf v lc k s) [] ++ linesFrom v lc (k + 1) ss
+
+unfoldable pub liveOf : List State → ℕ
+liveOf [] = 0
+liveOf (s ∷ ss) = cond (goesOn s) 1 0 + liveOf ss
+
+-- the LOOP table: those lines, and zeros to the size that all rows would take
+abbrev pub tableOf : ℕ → (ℕ → Bool) → List State → List Word
+tableOf v lc ss = linesFrom v lc 0 ss ++ replicate ((length ss - liveOf ss) * lineSize (countTo v lc)) (pos 0)
+
+-- ---- the most rounds that any row began, 0 for no rows
+unfoldable pub mostOf : List State → ℕ
+mostOf [] = 0
+mostOf (s ∷ ss) = max (s .begun) (mostOf ss)

@@ -1,0 +1,277 @@
+-- What the twelve examples leave open: the other numbers, limits and orders of 01, a line each, by computation. A definition that is changed in one of these
+-- points fails here.
+use Prim.Native.Nat.{ℕ}
+use Prim.{tt}
+use mathlib.Core.Path.{_≡_, refl}
+use mathlib.Core.Bool.{true, false}
+use mathlib.Core.List.{List, [], _∷_, _++_}
+use lib.IntN.{pos}
+use lib.ListN.{length, take, drop, replicate}
+use denote.Ref.{RefT}
+use Rattle.definitions.specs.Values.{Val, value, fault, flaw, settled, negation, sum, difference, quotient, remainder}
+use Rattle.definitions.specs.Rule.{Add, Multiply, Divide, Remainder, Less, Equal, And, Or}
+use Rattle.definitions.specs.Rule.{Expr, Cond, Const, Var, Neg, Op, Compare, Not, Join, Stmt, Set, Emit, End, Goto, Jump, Stop, If, Block, Rule}
+use Rattle.definitions.specs.Grammar.{Got, got, refused, then, twos, exprTag, opTag, badExpr, condTag, compareTag, notTag, joinTag, badCond, stmtTag, noStmt, endTag, badEnd}
+use Rattle.definitions.specs.Grammar.{targetsOf, exprAt, condAt, endAt, blockFrom, blocksTo, headed, ruleOf}
+use Rattle.definitions.specs.Meaning.{eval, holds}
+use Rattle.definitions.specs.Direct.{start, step, steps, exit, walk, advance, after}
+use Rattle.definitions.specs.Columns.{flowOf, some, reads, looks, endLooks, readFirst, sets, goesTo, jumpsTo, outputs, from, grown, growths, closure, inputsOf, outputsOf}
+use Rattle.definitions.specs.Plan.{maskOf, entryOf, entriesTo, planOf, same, planned, asPlan}
+use Rattle.definitions.specs.Pages.{lengthIn, wordSum, checkOf, pageBody, pageOf, pagesTo, fileOf, sizeOk, allZero, lengthOk, pageAt, payloadTo, unpacked}
+use Rattle.definitions.specs.Batch.{Word, startsOf, statesOf, recordOf, recordsOf, countTo, columnsOf, linesFrom, liveOf, mostOf}
+use Rattle.definitions.specs.Finder.{isNumber, lineIndex, linePart, foundIn}
+use Rattle.definitions.specs.Calls.{Batch, refusal, left, toRead, toWrite, toCompile, replyIn, ranReply, runReply, recordsIn, tableIn}
+use Rattle.definitions.specs.Examples.{R, planR, smallest, ran, row, words, minus, All}
+use Rattle.definitions.specs.declared.Reply.{Reply}
+use Rattle.definitions.specs.declared.Reply.the-variants.{Done}
+use Rattle.definitions.specs.declared.Kind.the-variants.{ZeroDivisor, OutOfRange}
+
+-- ---- short names
+
+abbrev number : ℕ → Expr
+number n = Const (pos n)
+
+-- an expression with fault 2, and one with fault 3
+abbrev byZero : Expr
+byZero = Op Divide (number 1) (number 0)
+
+abbrev tooHigh : Expr
+tooHigh = Op Multiply (number 46341) (number 46341)
+
+-- conditions that hold, do not hold, and fault
+abbrev holding : Cond
+holding = Compare Less (number 1) (number 2)
+
+abbrev failing : Cond
+failing = Compare Less (number 2) (number 1)
+
+abbrev faulting : Cond
+faulting = Compare Less byZero (number 1)
+
+-- a rule of one variable, which is no argument
+abbrev rule : List Block → Rule
+rule bs = record { variables = 1; arguments = 0; blocks = bs }
+
+abbrev block : List Stmt → End → Block
+block xs e = record { body = xs; ending = e }
+
+-- what one round of such a rule of one block leaves as record
+abbrev one : ℕ → List Stmt → End → List Word
+one q xs e = recordOf q (after (rule (block xs e ∷ [])) q 1 (start (rule (block xs e ∷ [])) []))
+
+-- blocks that set the variable and go on, read it and stop, read it and begin block 1 again
+abbrev setting : Block
+setting = block (Set 0 (number 1) ∷ []) (Goto 1)
+
+abbrev reading : Block
+reading = block (Emit (Var 0) ∷ []) Stop
+
+abbrev looping : Block
+looping = block (Emit (Var 0) ∷ []) (Jump 1)
+
+-- an ending that asks for the variable
+abbrev asking : End
+asking = If (Compare Less (Var 0) (number 1)) Stop Stop
+
+-- 6 by the argument
+abbrev divides : Rule
+divides = record { variables = 1; arguments = 1; blocks = block (Emit (Op Divide (number 6) (Var 0)) ∷ []) Stop ∷ [] }
+
+-- a rule's bytes, of n blocks and one variable: where it ends, or its refusal
+abbrev blocks : ℕ → List ℕ → Got ℕ
+blocks n s = then (ruleOf (0x01 ∷ 0x01 ∷ 0x00 ∷ n ∷ s)) (λ r end. got end end)
+
+-- an if before these bytes, with a condition of depth 2
+abbrev branch : List ℕ → List ℕ
+branch rest = 0x33 ∷ 0x11 ∷ 0x02 ∷ 0x00 ∷ 0x02 ∷ 0x00 ∷ rest
+
+-- the smallest rule's plan, and the reply to so many rows of it with so much room
+abbrev smallestPlan : List ℕ
+smallestPlan = 0x01 ∷ 0x01 ∷ 0x00 ∷ 0x01 ∷ 0 ∷ 0 ∷ 14 ∷ 0 ∷ 0 ∷ 0 ∷ 0 ∷ 0 ∷ 1 ∷ 0 ∷ drop 4 smallest
+
+abbrev asked : ℕ → ℕ → ℕ → ℕ → ℕ → Reply
+asked rows budget q out work = runReply (record { plan = smallestPlan; rows = rows; values = []; budget = budget; quota = q }) (planned smallestPlan) out work
+
+-- rows of R, with budget 2 and quota 4
+abbrev rows : List Val → Batch
+rows values = record { plan = planR; rows = length values; values = values; budget = 2; quota = 4 }
+
+-- a buffer in memory, and the words that the finder gives
+abbrev buffer : ℕ → List Word → RefT (List Word)
+buffer k ws = record { ptr = (k, 0); name = 0; now = ws }
+
+abbrev found : List Word → List Word → ℕ → ℕ → ℕ → ℕ → List Word
+found result work count q columns k = foundIn (buffer 1 result) (buffer 2 work) count q columns k .1
+
+-- three records without labels, of which the last two are of unfinished rows
+abbrev three : List Word
+three = words (1 ∷ 1 ∷ 0 ∷ 0 ∷ 1 ∷ 0 ∷ 0 ∷ 1 ∷ 0 ∷ [])
+
+-- ---- the rule, byte by byte
+
+pub ofRules : List (Type 0)
+ofRules =
+    -- 1: the tags that no example has
+    ((exprTag 0x06 ≡ opTag Multiply) × (exprTag 0x07 ≡ opTag Divide) × (exprTag 0x08 ≡ opTag Remainder) × (condTag 0x11 ≡ compareTag Equal) × (condTag 0x12 ≡ notTag) × (condTag 0x13 ≡ joinTag And) × (condTag 0x14 ≡ joinTag Or))
+    -- 2: tags are hexadecimal, and there are no others
+    ∷ ((exprTag 10 ≡ badExpr) × (exprTag 0x10 ≡ badExpr) × (condTag 0x15 ≡ badCond) × (stmtTag 0x22 ≡ noStmt) × (endTag 0x34 ≡ badEnd))
+    -- 3: a constant's lowest byte comes first, and it has a sign
+    ∷ ((exprAt 1 1 (0x01 ∷ 1 ∷ 2 ∷ 3 ∷ 4 ∷ []) 0 ≡ got (Const (pos 0x04030201)) 5) × (exprAt 1 1 (0x01 ∷ 0 ∷ 0 ∷ 0 ∷ 0x80 ∷ []) 0 ≡ got (Const (minus 2147483648)) 5))
+    -- 4: form 1, v from 1 to 16, a to v, n from 1 to 64: the last of these headers is good
+    ∷ ((ruleOf (2 ∷ 16 ∷ 16 ∷ 64 ∷ []) ≡ refused 4 0) × (ruleOf (1 ∷ 17 ∷ 16 ∷ 64 ∷ []) ≡ refused 4 1) × (ruleOf (1 ∷ 16 ∷ 17 ∷ 64 ∷ []) ≡ refused 4 2) × (ruleOf (1 ∷ 16 ∷ 16 ∷ 65 ∷ []) ≡ refused 4 3) × (ruleOf (1 ∷ 1 ∷ 0 ∷ 0 ∷ []) ≡ refused 4 3) × (ruleOf (1 ∷ 16 ∷ 16 ∷ 64 ∷ []) ≡ refused 9 4))
+    -- 5: a header that is cut, and one that is bad twice
+    ∷ ((ruleOf (0xFF ∷ 0xFF ∷ []) ≡ refused 9 2) × (ruleOf (0x01 ∷ 0x00 ∷ 0x09 ∷ 0x41 ∷ []) ≡ refused 4 1))
+    -- 6: an emit's and a set's expression go to depth 8
+    ∷ ((blocks 1 (0x21 ∷ replicate 7 0x03 ++ (0x02 ∷ 0x00 ∷ 0x32 ∷ [])) ≡ got 15 15) × (blocks 1 (0x20 ∷ 0x00 ∷ replicate 7 0x03 ++ (0x02 ∷ 0x00 ∷ 0x32 ∷ [])) ≡ got 16 16) × (blocks 1 (0x21 ∷ replicate 8 0x03 ++ (0x02 ∷ 0x00 ∷ 0x32 ∷ [])) ≡ refused 8 13))
+    -- 7: so does a condition with the expressions in it, from the start in each if
+    ∷ ((blocks 1 (branch (0x33 ∷ replicate 6 0x12 ++ (0x11 ∷ 0x02 ∷ 0x00 ∷ 0x02 ∷ 0x00 ∷ 0x32 ∷ 0x32 ∷ 0x32 ∷ []))) ≡ got 25 25) × (blocks 1 (0x33 ∷ replicate 7 0x12 ++ (0x11 ∷ 0x02 ∷ 0x00 ∷ [])) ≡ refused 8 13))
+    -- 8: endings go to depth 4
+    ∷ ((blocks 1 (branch (branch (branch (replicate 4 0x32)))) ≡ got 26 26) × (blocks 1 (branch (branch (branch (branch (replicate 5 0x32))))) ≡ refused 8 28))
+    -- 9: a variable that there is not, read and set
+    ∷ ((blocks 1 (0x21 ∷ 0x02 ∷ 0x01 ∷ []) ≡ refused 6 6) × (blocks 1 (0x20 ∷ 0x01 ∷ []) ≡ refused 6 5))
+    -- 10: a goto goes to a later block, a jump to any, and neither to one that there is not
+    ∷ ((blocks 2 (0x30 ∷ 0x01 ∷ 0x31 ∷ 0x00 ∷ []) ≡ got 8 8) × (blocks 2 (0x30 ∷ 0x02 ∷ []) ≡ refused 7 5) × (blocks 2 (0x31 ∷ 0x02 ∷ []) ≡ refused 7 5))
+    -- 11: a constant that is cut, and bytes after the last block
+    ∷ ((exprAt 1 1 (0x01 ∷ 0 ∷ []) 0 ≡ refused 9 2) × (blocks 1 (0x32 ∷ 0x32 ∷ []) ≡ refused 10 5))
+    -- 12: at one place 9 goes before 8, and 8 before 5
+    ∷ ((exprAt 0 1 [] 0 ≡ refused 9 0) × (exprAt 0 1 (0xFF ∷ []) 0 ≡ refused 8 0) × (exprAt 1 1 (0xFF ∷ []) 0 ≡ refused 5 0) × (condAt 0 1 (0xFF ∷ []) 0 ≡ refused 8 0) × (condAt 1 1 (0xFF ∷ []) 0 ≡ refused 5 0) × (endAt 1 (targetsOf 1 0) 1 (0xFF ∷ []) 0 ≡ refused 5 0))
+    ∷ []
+
+pub rules-hold : All ofRules
+unfolding ofRules twos exprAt condAt endAt blockFrom blocksTo headed ruleOf
+rules-hold =
+    ((refl, refl, refl, refl, refl, refl, refl), ((refl, refl, refl, refl, refl), ((refl, refl), ((refl, refl, refl, refl, refl, refl), ((refl, refl), ((refl, refl, refl), ((refl, refl), ((refl, refl), ((refl, refl), ((refl, refl, refl), ((refl, refl), ((refl, refl, refl, refl, refl, refl), tt))))))))))))
+
+-- ---- meaning
+
+pub ofMeaning : List (Type 0)
+ofMeaning =
+    -- 13: the range of values
+    ((settled (minus 2147483648) ≡ value (minus 2147483648)) × (settled (minus 2147483649) ≡ fault (flaw OutOfRange)) × (settled (pos 2147483647) ≡ value (pos 2147483647)) × (settled (pos 2147483648) ≡ fault (flaw OutOfRange)))
+    -- 14: every operator's result has to lie in it
+    ∷ ((negation (minus 2147483648) ≡ fault (flaw OutOfRange)) × (sum (pos 2147483647) (pos 1) ≡ fault (flaw OutOfRange)) × (difference (minus 2147483648) (pos 1) ≡ fault (flaw OutOfRange)))
+    -- 15: a divisor of 0 is fault 2 in both
+    ∷ ((quotient (minus 2147483648) (pos 0) ≡ fault (flaw ZeroDivisor)) × (remainder (minus 2147483648) (pos 0) ≡ fault (flaw ZeroDivisor)))
+    -- 16: the operators that no example works out
+    ∷ ((eval (Neg (number 7)) [] ≡ value (minus 7)) × (eval (Op Multiply (number 7) (number 2)) [] ≡ value (pos 14)) × (eval (Op Divide (number 7) (number 2)) [] ≡ value (pos 3)) × (eval (Op Remainder (number 7) (number 2)) [] ≡ value (pos 1)))
+    -- 17: left to right, and the first fault stands
+    ∷ ((eval (Op Add byZero tooHigh) [] ≡ fault (flaw ZeroDivisor)) × (eval (Op Add tooHigh byZero) [] ≡ fault (flaw OutOfRange)) × (holds (Compare Less byZero tooHigh) [] ≡ fault (flaw ZeroDivisor)) × (holds (Compare Less tooHigh byZero) [] ≡ fault (flaw OutOfRange)))
+    -- 18: and, or look right only where the left leaves it open
+    ∷ ((holds (Join And failing faulting) [] ≡ value false) × (holds (Join Or holding faulting) [] ≡ value true) × (holds (Join And holding faulting) [] ≡ fault (flaw ZeroDivisor)) × (holds (Join Or failing faulting) [] ≡ fault (flaw ZeroDivisor)))
+    -- 19: not, and equal of both signs
+    ∷ ((holds (Not holding) [] ≡ value false) × (holds (Compare Equal (Const (minus 1)) (Const (minus 1))) [] ≡ value true) × (holds (Compare Equal (number 1) (Const (minus 1))) [] ≡ value false))
+    -- 20: status 0 unfinished, 1 stopped, 2 and 3 the faults, 4 quota
+    ∷ ((one 0 [] (Jump 0) ≡ words (0 ∷ 1 ∷ 0 ∷ [])) × (one 0 [] Stop ≡ words (1 ∷ 1 ∷ 0 ∷ [])) × (one 0 (Emit byZero ∷ []) Stop ≡ words (2 ∷ 1 ∷ 0 ∷ [])) × (one 0 (Emit tooHigh ∷ []) Stop ≡ words (3 ∷ 1 ∷ 0 ∷ [])) × (one 0 (Emit (number 7) ∷ []) Stop ≡ words (4 ∷ 1 ∷ 0 ∷ [])))
+    -- 21: labels emitted before a fault stay, in a statement and in an if
+    ∷ ((one 2 (Emit (number 7) ∷ Set 0 byZero ∷ []) Stop ≡ words (2 ∷ 1 ∷ 1 ∷ 7 ∷ 0 ∷ [])) × (one 2 (Emit (number 7) ∷ []) (If faulting Stop Stop) ≡ words (2 ∷ 1 ∷ 1 ∷ 7 ∷ 0 ∷ [])))
+    -- 22: the label that the quota leaves no room for ends the row, and is not kept
+    ∷ (one 1 (Emit (number 7) ∷ Emit (number 8) ∷ []) Stop ≡ words (4 ∷ 1 ∷ 1 ∷ 7 ∷ []))
+    ∷ []
+
+pub meaning-hold : All ofMeaning
+unfolding ofMeaning settled quotient remainder eval holds step steps exit walk advance after
+meaning-hold =
+    ((refl, refl, refl, refl), ((refl, refl, refl), ((refl, refl), ((refl, refl, refl, refl), ((refl, refl, refl, refl), ((refl, refl, refl, refl), ((refl, refl, refl), ((refl, refl, refl, refl, refl), ((refl, refl), (refl, tt))))))))))
+
+-- ---- columns and the plan
+
+pub ofColumns : List (Type 0)
+ofColumns =
+    -- 23: FV: a set shields what comes after it, in statements and ending, but not its own expression
+    ((readFirst (Set 0 (Var 0) ∷ []) Stop 0 ≡ true) × (readFirst (Set 0 (number 1) ∷ Emit (Var 0) ∷ []) Stop 0 ≡ false) × (readFirst [] asking 0 ≡ true) × (readFirst (Set 0 (number 1) ∷ []) asking 0 ≡ false))
+    -- 24: BV: what a block sets, it does not need for the blocks after it
+    ∷ ((inputsOf (flowOf (rule (setting ∷ reading ∷ []))) 0 0 ≡ false) × (outputsOf (flowOf (rule (setting ∷ reading ∷ []))) 0 0 ≡ true))
+    -- 25: J: its blocks have the same inputs, and tags count that nothing reaches
+    ∷ ((inputsOf (flowOf (rule (block [] Stop ∷ reading ∷ []))) 0 0 ≡ false) × (inputsOf (flowOf (rule (block [] Stop ∷ looping ∷ []))) 0 0 ≡ true))
+    -- 26: no plan: another mask, a byte more, a rule that is too long
+    ∷ ((planned (take 4 planR ++ (1 ∷ drop 5 planR)) ≡ refused 15 0) × (planned (planR ++ (0 ∷ [])) ≡ refused 15 0) × ((p : List ℕ) (r : Rule) → asPlan p (got r 4065) ≡ refused 15 0))
+    ∷ []
+
+pub columns-hold : All ofColumns
+unfolding ofColumns twos exprAt condAt endAt blockFrom blocksTo headed ruleOf
+    some reads looks endLooks readFirst sets goesTo jumpsTo outputs from grown growths closure inputsOf maskOf entryOf entriesTo planOf same planned
+columns-hold =
+    ((refl, refl, refl, refl), ((refl, refl), ((refl, refl), ((refl, refl, λ p r. refl), tt))))
+
+-- ---- files
+
+pub ofFiles : List (Type 0)
+ofFiles =
+    -- 27: a file is 1 to 8 whole pages, and else 1
+    ((unpacked [] ≡ refused 1 0) × (sizeOk 768 ≡ false) × (sizeOk 512 ≡ true) × (sizeOk 4096 ≡ true) × (sizeOk 4608 ≡ false))
+    -- 28: the last page holds 1 to 508 bytes, every other 508
+    ∷ ((lengthOk true 0 ≡ false) × (lengthOk true 1 ≡ true) × (lengthOk true 508 ≡ true) × (lengthOk true 509 ≡ false) × (lengthOk false 507 ≡ false) × (lengthOk false 508 ≡ true))
+    -- 29: a page of length 0 that is right otherwise; as page 1 its check is wrong too, and 2 comes first
+    ∷ ((pageAt true (replicate 509 0 ++ (1 ∷ 0 ∷ 1 ∷ [])) 0 ≡ refused 3 0) × (pageAt true (replicate 509 0 ++ (1 ∷ 0 ∷ 1 ∷ [])) 1 ≡ refused 2 1))
+    -- 30: a byte after the payload, with a check that is right
+    ∷ (pageAt true (1 ∷ 0 ∷ 7 ∷ 1 ∷ replicate 506 0 ++ (8 ∷ 1 ∷ [])) 0 ≡ refused 3 0)
+    -- 31: byte 509 begins a page
+    ∷ ((length (fileOf (replicate 508 0)) ≡ 512) × (take 3 (drop 512 (fileOf (replicate 508 0 ++ (9 ∷ [])))) ≡ 1 ∷ 0 ∷ 9 ∷ []))
+    ∷ []
+
+pub files-hold : All ofFiles
+unfolding ofFiles lengthIn wordSum checkOf pageBody pageOf pagesTo fileOf allZero lengthOk pageAt unpacked
+files-hold =
+    ((refl, refl, refl, refl, refl), ((refl, refl, refl, refl, refl, refl), ((refl, refl), (refl, ((refl, refl), tt)))))
+
+-- ---- a batch
+
+pub ofBatch : List (Type 0)
+ofBatch =
+    -- 32: a row that has ended begins no further round
+    (ran (row 9 4) ≡ (Done 3, (words (1 ∷ 3 ∷ 2 ∷ 2 ∷ 3 ∷ 0 ∷ 0 ∷ []), words (0 ∷ 0 ∷ 0 ∷ 0 ∷ []))))
+    -- 33: rows 2, 0, -5, as the program has them: each row has its own labels, and the most rounds are no sum
+    ∷ (ran (rows (pos 2 ∷ pos 0 ∷ minus 5 ∷ [])) ≡ (Done 2, (words (0 ∷ 2 ∷ 1 ∷ 2 ∷ 0 ∷ 0 ∷ 0 ∷ 1 ∷ 1 ∷ 2 ∷ 0 ∷ 0 ∷ 0 ∷ 0 ∷ []) ++ (pos 1 ∷ pos 1 ∷ pos 2 ∷ minus 5 ∷ words (0 ∷ 0 ∷ 0 ∷ [])), words (0 ∷ 1 ∷ 0 ∷ 3 ∷ replicate 8 0))))
+    -- 34: a line has its row's number; no rows began no rounds
+    ∷ ((tableIn (rows (pos 0 ∷ pos 2 ∷ [])) (planned planR) ≡ words (1 ∷ 1 ∷ 0 ∷ 3 ∷ replicate 4 0)) × (ran (rows []) ≡ (Done 0, ([], []))))
+    -- 35: a row's fault leaves the row after it alone
+    ∷ (recordsOf 1 (statesOf divides (pos 0 ∷ pos 3 ∷ []) 2 1 1) ≡ words (2 ∷ 1 ∷ 0 ∷ 0 ∷ 1 ∷ 1 ∷ 1 ∷ 2 ∷ []))
+    ∷ []
+
+pub batch-hold : All ofBatch
+unfolding ofBatch twos exprAt condAt endAt blockFrom blocksTo headed ruleOf
+    settled quotient eval holds step steps exit walk advance after
+    some reads looks endLooks readFirst sets goesTo jumpsTo outputs from grown growths closure inputsOf maskOf entryOf entriesTo planOf same planned
+    startsOf recordsOf countTo columnsOf linesFrom liveOf mostOf ranReply runReply recordsIn tableIn
+batch-hold =
+    (refl, (refl, ((refl, refl), (refl, tt))))
+
+-- ---- the finder
+
+pub ofFinder : List (Type 0)
+ofFinder =
+    -- 36: a record; of two lines the first; where a line lies
+    ((found three (words (1 ∷ 5 ∷ 1 ∷ 6 ∷ [])) 3 0 0 0 ≡ words (1 ∷ 1 ∷ 0 ∷ [])) × (found three (words (1 ∷ 5 ∷ 1 ∷ 6 ∷ [])) 3 0 0 1 ≡ words (1 ∷ 5 ∷ [])) × (foundIn (buffer 1 three) (buffer 2 (words (1 ∷ 5 ∷ 2 ∷ 6 ∷ []))) 3 0 0 2 ≡ ((2, 8), words (2 ∷ 6 ∷ []))))
+    -- 37: the empty part: no such row, no line, no whole line, too short a result
+    ∷ ((found three [] 0 0 0 0 ≡ []) × (found three (words (1 ∷ 5 ∷ [])) 3 0 0 2 ≡ []) × (found three (words (2 ∷ [])) 3 0 0 2 ≡ []) × (found three [] 3 1 0 0 ≡ []))
+    -- 38: 256 rows, quota 16 and 16 columns, and one more of each
+    ∷ ((found (replicate 771 (pos 1)) [] 256 0 0 0 ≡ words (1 ∷ 1 ∷ 1 ∷ [])) × (found (replicate 771 (pos 1)) [] 257 0 0 0 ≡ []) × (found (replicate 20 (pos 1)) [] 1 16 0 0 ≡ replicate 19 (pos 1)) × (found (replicate 20 (pos 1)) [] 1 17 0 0 ≡ []) × (found (words (0 ∷ 0 ∷ 0 ∷ [])) (replicate 19 (pos 0)) 1 0 16 0 ≡ replicate 18 (pos 0)) × (found (words (0 ∷ 0 ∷ 0 ∷ [])) (replicate 19 (pos 0)) 1 0 17 0 ≡ []))
+    ∷ []
+
+pub finder-hold : All ofFinder
+unfolding ofFinder isNumber lineIndex linePart foundIn
+finder-hold =
+    ((refl, refl, refl), ((refl, refl, refl, refl), ((refl, refl, refl, refl, refl, refl), tt)))
+
+-- ---- reply numbers
+
+pub ofReplies : List (Type 0)
+ofReplies =
+    -- 39: the writer's 11 comes before all else
+    ((toWrite (replicate 4064 0) ≡ refused 4 0) × (toWrite (replicate 4065 0) ≡ refused 11 0))
+    -- 40: what is written, with just enough room and one byte less: 12 at 0
+    ∷ ((toRead (fileOf R) ≡ got R 45) × (toCompile (fileOf R) ≡ got planR 45) × (replyIn 512 (toWrite R) ≡ Done 512) × (replyIn 511 (toWrite R) ≡ refusal 12 0))
+    -- 41: running: up to 256 rows, budget 65535 and quota 16, and as many values as the rows take
+    ∷ ((asked 256 65535 16 0 0 ≡ refusal 12 0) × (asked 257 0 0 0 0 ≡ refusal 13 0) × (asked 1 65536 0 0 0 ≡ refusal 14 0) × (asked 1 0 17 0 0 ≡ refusal 14 0) × (runReply (record { plan = planR; rows = 2; values = pos 1 ∷ []; budget = 0; quota = 0 }) (planned planR) 100 100 ≡ refusal 13 0))
+    -- 42: running: 15, 13, 14, 12 for the output, 12 for the working buffer
+    ∷ ((runReply (record { plan = []; rows = 257; values = []; budget = 65536; quota = 17 }) (planned []) 0 0 ≡ refusal 15 0) × (asked 257 65536 17 0 0 ≡ refusal 13 0) × (asked 256 65536 17 0 0 ≡ refusal 14 0) × (asked 1 1 0 0 0 ≡ refusal 12 0) × (asked 1 1 0 3 1 ≡ refusal 12 1) × (asked 1 1 0 3 2 ≡ Done 1))
+    -- 43: a refusal changes no buffer, and what lies beyond the written part stays
+    ∷ ((left (refusal 12 0) (words (1 ∷ 2 ∷ [])) (words (7 ∷ 8 ∷ 9 ∷ [])) ≡ words (7 ∷ 8 ∷ 9 ∷ [])) × (left (Done 2) (words (1 ∷ 2 ∷ [])) (words (7 ∷ 8 ∷ 9 ∷ [])) ≡ words (1 ∷ 2 ∷ 9 ∷ [])))
+    ∷ []
+
+pub replies-hold : All ofReplies
+unfolding ofReplies twos exprAt condAt endAt blockFrom blocksTo headed ruleOf
+    steps exit walk advance after some reads looks endLooks readFirst sets goesTo jumpsTo outputs from grown growths closure inputsOf maskOf entryOf entriesTo planOf same planned
+    lengthIn wordSum checkOf pageBody pageOf pagesTo fileOf allZero lengthOk pageAt payloadTo unpacked startsOf countTo mostOf toRead toWrite toCompile replyIn ranReply runReply
+replies-hold =
+    ((refl, refl), ((refl, refl, refl, refl), ((refl, refl, refl, refl, refl), ((refl, refl, refl, refl, refl, refl), ((refl, refl), tt)))))

@@ -1,0 +1,117 @@
+-- 01, Meaning, and A batch: the direct run of a rule for one row. It goes by rounds and keeps all variables.
+use Prim.Native.Nat.{ℕ, zero, suc, _+_, _-_}
+use mathlib.Core.Bool.{cond}
+use mathlib.Core.List.{List, [], _∷_, _++_}
+use lib.Dec.{eqb, ltb}
+use lib.IntN.{pos}
+use lib.ListN.{length, set, replicate}
+use Rattle.definitions.specs.Values.{Val, Out, value, fault, also, kindNumber}
+use Rattle.definitions.specs.Rule.{Stmt, Set, Emit, End, Goto, Jump, Stop, If, Block, Rule, size, blockOf}
+use Rattle.definitions.specs.Meaning.{eval, holds}
+use Rattle.definitions.specs.declared.Flaw.{Flaw}
+
+-- ---- status numbers
+
+abbrev pub unfinished : ℕ
+unfinished = 0
+
+abbrev pub stopped : ℕ
+stopped = 1
+
+-- a fault's status is its kind's number, 2 or 3
+abbrev pub faulted : Flaw → ℕ
+faulted f = kindNumber (f .kind)
+
+abbrev pub quotaFull : ℕ
+quotaFull = 4
+
+-- ---- inside a block
+
+-- on the way through a block: the variables and the row's labels so far; or the row has ended, with its status and labels
+pub data Way : Type 0 where
+  on : List Val → List Val → Way
+  ended : ℕ → List Val → Way
+
+abbrev pub onward : Way → (List Val → List Val → Way) → Way
+onward (on env ls) f = f env ls
+onward (ended st ls) f = ended st ls
+
+-- what is worked out, used where it is a value; a fault ends the row, and its labels stay
+abbrev pub with : {B : Type 0} → Out B → List Val → (B → Way) → Way
+with (value b) ls f = f b
+with (fault k) ls f = ended (faulted k) ls
+
+-- an emit works out its expression first; then, where the quota is used up, the row ends
+abbrev pub emitted : ℕ → List Val → List Val → Val → Way
+emitted q env ls z = cond (ltb (length ls) q) (on env (ls ++ (z ∷ []))) (ended quotaFull ls)
+
+unfoldable pub step : ℕ → Stmt → List Val → List Val → Way
+step q (Set x e) env ls = with (eval e env) ls (λ z. on (set env x z) ls)
+step q (Emit e) env ls = with (eval e env) ls (λ z. emitted q env ls z)
+
+-- each statement sees the ones before it
+unfoldable pub steps : ℕ → List Stmt → List Val → List Val → Way
+steps q [] env ls = on env ls
+steps q (x ∷ xs) env ls = onward (step q x env ls) (λ env ls. steps q xs env ls)
+
+-- where an ending leads
+pub data Exit : Type 0 where
+  toBlock : ℕ → Exit
+  toRound : ℕ → Exit
+  toStop : Exit
+
+unfoldable pub exit : End → List Val → Out Exit
+exit (Goto t) env = value (toBlock t)
+exit (Jump t) env = value (toRound t)
+exit Stop env = value toStop
+exit (If c x y) env = also (holds c env) (λ h. cond h (exit x env) (exit y env))
+
+-- ---- a round
+
+-- what a round comes to: a jump asks for the next round at a block, or the row has ended
+pub data Round : Type 0 where
+  jumped : ℕ → List Val → List Val → Round
+  finished : ℕ → List Val → Round
+
+-- a block's ending, after its statements: W goes on at another block, in the same round
+abbrev pub leave : Out Exit → List Val → List Val → (ℕ → Round) → Round
+leave (value (toBlock t)) env ls W = W t
+leave (value (toRound t)) env ls W = jumped t env ls
+leave (value toStop) env ls W = finished stopped ls
+leave (fault k) env ls W = finished (faulted k) ls
+
+abbrev pub through : Way → End → (ℕ → List Val → List Val → Round) → Round
+through (on env ls) e W = leave (exit e env) env ls (λ t. W t env ls)
+through (ended st ls) e W = finished st ls
+
+-- from block b on. The first number bounds how many blocks a round enters: gotos only rise, so the number of blocks is enough
+unfoldable pub walk : ℕ → Rule → ℕ → ℕ → List Val → List Val → Round
+walk zero r q b env ls = jumped b env ls
+walk (suc f) r q b env ls = through (steps q (blockOf r b .body) env ls) (blockOf r b .ending) (λ t env ls. walk f r q t env ls)
+
+-- ---- a row
+
+pub record State : Type 0 where
+  pub status : ℕ
+  pub begun : ℕ  -- rounds
+  pub labels : List Val
+  pub block : ℕ  -- where the next round starts
+  pub vars : List Val
+
+-- the arguments, and all other variables at 0; round 1 starts at the entry
+abbrev pub start : Rule → List Val → State
+start r args = record { status = unfinished; begun = 0; labels = []; block = 0; vars = args ++ replicate (r .variables - length args) (pos 0) }
+
+-- the state after the round that it asked for; a row that ended keeps the block and the variables it had
+abbrev pub joined : State → Round → State
+joined s (jumped b env ls) = record { status = unfinished; begun = s .begun + 1; labels = ls; block = b; vars = env }
+joined s (finished st ls) = record { status = st; begun = s .begun + 1; labels = ls; block = s .block; vars = s .vars }
+
+-- one round under quota q; a finished row stays as it is
+unfoldable pub advance : Rule → ℕ → State → State
+advance r q s = cond (eqb (s .status) unfinished) (joined s (walk (size r) r q (s .block) (s .vars) (s .labels))) s
+
+-- with budget N, N rounds may begin
+unfoldable pub after : Rule → ℕ → ℕ → State → State
+after r q zero s = s
+after r q (suc n) s = advance r q (after r q n s)

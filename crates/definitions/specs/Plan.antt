@@ -1,0 +1,83 @@
+-- 01, Columns, the plan: its bytes, and which bytes are a plan.
+use Prim.Native.Nat.{ℕ, zero, suc, _+_, _-_, _*_, _/_, _%_, _^_}
+use mathlib.Core.Bool.{Bool, true, false, cond, _&&_}
+use mathlib.Core.List.{List, [], _∷_, _++_}
+use lib.Dec.{eqb, leb}
+use lib.ListN.{length, take, drop, getD}
+use Rattle.definitions.specs.Rule.{Rule, Block, size}
+use Rattle.definitions.specs.Grammar.{Got, got, refused, blocksTo, ruleOf, longest}
+use Rattle.definitions.specs.Columns.{flowOf, J, inputsOf, outputsOf, LC}
+
+-- sixteen bits as two bytes, the lower first
+abbrev pub le16 : ℕ → List ℕ
+le16 n = n % 256 ∷ n / 256 ∷ []
+
+-- and the sixteen bits at byte i
+abbrev pub wordAt : List ℕ → ℕ → ℕ
+wordAt p i = getD p i 0 + getD p (i + 1) 0 * 256
+
+-- a set of variables as a mask: bit k is variable k
+unfoldable pub maskOf : ℕ → (ℕ → Bool) → ℕ
+maskOf zero f = 0
+maskOf (suc v) f = maskOf v f + cond (f v) (2 ^ v) 0
+
+-- whether a mask holds variable k
+abbrev pub bitOf : ℕ → ℕ → Bool
+bitOf m k = eqb (m / 2 ^ k % 2) 1
+
+-- where what is read ends
+abbrev pub endOf : {A : Type 0} → Got A → ℕ
+endOf (got a n) = n
+endOf (refused k p) = p
+
+-- the place of block b in the rule's bytes: where the blocks before it end
+abbrev pub placeOf : Rule → List ℕ → ℕ → ℕ
+placeOf r s b = endOf (blocksTo (size r) (r .variables) s b)
+
+-- the bytes of a plan before the blocks' bodies
+abbrev pub headSize : ℕ → ℕ
+headSize n = 6 + 8 * n
+
+-- a block's entry: the offset of its body in the plan, its input and its output mask, 1 if it is in J and else 0
+unfoldable pub entryOf : Rule → List ℕ → ℕ → List ℕ
+entryOf r s b =
+    le16 (placeOf r s b - 4 + headSize (size r))
+    ++ (le16 (maskOf (r .variables) (inputsOf (flowOf r) b))
+    ++ (le16 (maskOf (r .variables) (outputsOf (flowOf r) b))
+    ++ le16 (cond (J (flowOf r) b) 1 0)))
+
+unfoldable pub entriesTo : Rule → List ℕ → ℕ → List ℕ
+entriesTo r s zero = []
+entriesTo r s (suc k) = entriesTo r s k ++ entryOf r s k
+
+-- the plan of a rule whose bytes are s: the header, LC, the entries, the rule without its header
+unfoldable pub planOf : Rule → List ℕ → List ℕ
+planOf r s = take 4 s ++ (le16 (maskOf (r .variables) (LC (flowOf r))) ++ (entriesTo r s (size r) ++ drop 4 s))
+
+-- its size, for a rule of L bytes and n blocks
+abbrev pub planSize : ℕ → ℕ → ℕ
+planSize n L = headSize n + L - 4
+
+-- ---- which bytes are a plan
+
+unfoldable pub same : List ℕ → List ℕ → Bool
+same [] [] = true
+same [] (y ∷ ys) = false
+same (x ∷ xs) [] = false
+same (x ∷ xs) (y ∷ ys) = eqb x y && same xs ys
+
+-- where a plan's bodies begin: at the offset of block 0
+abbrev pub bodiesAt : List ℕ → ℕ
+bodiesAt p = wordAt p 6
+
+-- the rule that a plan carries: the header and the bodies
+abbrev pub carried : List ℕ → List ℕ
+carried p = take 4 p ++ drop (bodiesAt p) p
+
+-- accepted exactly if that is a rule, of a rule's length, and compiles to these bytes; 15 if not
+abbrev pub asPlan : List ℕ → Got Rule → Got Rule
+asPlan p (got r n) = cond (leb n longest && same (planOf r (carried p)) p) (got r n) (refused 15 0)
+asPlan p (refused k at) = refused 15 0
+
+unfoldable pub planned : List ℕ → Got Rule
+planned p = asPlan p (ruleOf (carried p))

@@ -1,0 +1,74 @@
+// The answers of the calls, and the limits. What each case stands for is said in specs/.
+ghost use mathlib.Core.Path.{_≡_};
+ghost use Rattle.definitions.specs.Grammar.{misread};
+ghost use Rattle.definitions.specs.Calls.{refusal};
+
+// The most bytes that a rule has, and a plan.
+pub const LONGEST: usize = 4064;
+
+pub const LONGEST_PLAN: usize = 4578;
+
+// The most blocks and the most variables of a rule.
+pub const BLOCKS: usize = 64;
+
+pub const VARIABLES: usize = 16;
+
+// How deep expressions and conditions go together, and endings.
+pub const DEPTH: u8 = 8;
+
+pub const LEVELS: u8 = 4;
+
+// Why an operator has no value.
+pub enum Kind {
+    ZeroDivisor,
+    OutOfRange,
+}
+
+// A fault, handed up whole.
+pub struct Flaw {
+    pub kind: Kind,
+}
+
+// What an operator or an expression comes to.
+pub enum Outcome {
+    Value(i32),
+    Fault(Flaw),
+}
+
+// Why and where bad input is refused.
+pub struct Refusal {
+    pub number: u8,
+    pub place: usize,
+}
+
+// The blocks that an ending may name, of so many: a goto those from the lowest on, a jump any.
+pub struct Targets {
+    pub lowest: u8,
+    pub blocks: u8,
+}
+
+// What reading at a place of a rule finds: the place after it, or a refusal.
+pub enum Read {
+    Next(usize),
+    Refused(Refusal),
+}
+
+// What a call answers: the size written, for a run the most rounds, or a refusal.
+pub enum Reply {
+    Done(usize),
+    Refused(Refusal),
+}
+
+// The refusal of a call.
+pub fn refuse(number: u8, place: usize) -> Reply
+    ensures { λ r. ⌜ r ≡ refusal number place ⌝ }
+{
+    Reply::Refused(Refusal { number, place })
+}
+
+// The refusal of a reader.
+pub fn misread(number: u8, place: usize) -> Read
+    ensures { λ r. ⌜ r ≡ misread number place ⌝ }
+{
+    Read::Refused(Refusal { number, place })
+}
