@@ -1,28 +1,26 @@
 -- Laws of the input's values, of a run's reply and of the text of its records. Assumes nothing.
 use Prim.Native.Nat.{ℕ, zero, suc, _+_, _-_, _*_, _/_, _≤_, _<_}
 use mathlib.Core.Path.{_≡_, refl, sym, _∙_}
-use mathlib.Core.Bool.{Bool, true, false, cond, not, _||_}
+use mathlib.Core.Bool.{Bool, true, false, cond, _||_}
 use mathlib.Core.List.{List, [], _∷_, _++_}
 use native.Mathlib.Numerals.{add-one, unary-clauses}
 use native.Mathlib.Omega.{arith}
-use lib.Dec.{eqb, ltb}
+use lib.Dec.{ltb}
 use borrow.Author.Tests.{ltb-false}
 use lib.IntN.{pos}
 use lib.ListN.{length, take, drop, set, getD, replicate}
 use lib.Seq.{take-suc-set}
 use Rattle.definitions.specs.Values.{Val}
-use Rattle.definitions.specs.Rule.{Rule}
 use Rattle.definitions.specs.Grammar.{Got, got, refused, constantIn}
 use Rattle.definitions.specs.Plan.{planned}
 use Rattle.definitions.specs.Batch.{Word}
-use Rattle.definitions.specs.Finder.{mostRows, mostQuota}
-use Rattle.definitions.specs.Calls.{Batch, refusal, mostBudget, Ran, Wrote, runReply, ranReply, recordsIn, toCompile, replyIn}
+use Rattle.definitions.specs.Calls.{Batch, refusal, Ran, Wrote, runReply, recordsIn, toCompile, replyIn}
 use Rattle.definitions.specs.declared.Refusal.{Refusal}
 use Rattle.definitions.specs.declared.Reply.{Reply}
 use Rattle.definitions.specs.declared.Reply.the-variants.{Done, Refused}
 use Rattle.rules.proofs.Promises.{done-bytes}
 use Rattle.printing.specs.Text.{wordsText, lineText, linesText, recordAt, answerText, refusalText}
-use Rattle.answers.specs.Answer.{numberIn, valuesIn, noBatch, batchIn, planRoom, resultRoom, workRoom, ranAnswer, batchAnswer, inputAnswer, fileAnswer, answerTo}
+use Rattle.answers.specs.Answer.{numberIn, valuesIn, noBatch, batchIn, planRoom, resultRoom, workRoom, ranAnswer, batchAnswer, inputAnswer, fileAnswer, answerTo, mostInput}
 
 -- ---- the values
 
@@ -44,22 +42,6 @@ no-refusal false k p e = (refl, e)
 neither : (a b : Bool) → (a || b) ≡ false → (a ≡ false) × (b ≡ false)
 neither true b e = let z : _≡_ {A = ℕ} 0 1 = cc in absurd (omega arith)
 neither false b e = (refl, e)
-
--- a run that is done kept to the limits, and its records fit
-pub run-done : (b : Batch) (g : Got Rule) (outRoom workRoom : ℕ) {most : ℕ} → runReply b g outRoom workRoom ≡ Done most
-    → (b .rows ≤ 256) × ((b .quota ≤ 16) × (recordAt (b .quota) (b .rows) ≤ outRoom))
-unfolding runReply ranReply
-run-done b (got r n) outRoom workRoom e =
-    let p = no-refusal (ltb mostRows (b .rows) || not (eqb (length (b .values)) (b .rows * r .arguments))) 13 0 e in
-    let q = no-refusal (ltb mostBudget (b .budget) || ltb mostQuota (b .quota)) 14 0 (p .1) in
-    let s = no-refusal (ltb outRoom (recordAt (b .quota) (b .rows))) 12 0 (q .1) in (
-      ltb-false mostRows (b .rows) (neither (ltb mostRows (b .rows)) _ (p .0) .0),
-      (
-        ltb-false mostQuota (b .quota) (neither (ltb mostBudget (b .budget)) (ltb mostQuota (b .quota)) (q .0) .1),
-        ltb-false outRoom (recordAt (b .quota) (b .rows)) (s .0),
-      ),
-    )
-run-done b (refused k p) outRoom workRoom e = let z : _≡_ {A = ℕ} 0 1 = cc in absurd (omega arith)
 
 -- ---- the text of records
 
@@ -111,10 +93,10 @@ module _ {b : Batch} {old work new work′ : List Word} {r : Reply} (ran : Ran b
 -- ---- the answer of a plan
 
 -- an input that holds a batch has three numbers, and no more values than there may be
-pub batch-size : (size : ℕ) → noBatch size ≡ false → (12 ≤ size) × (size ≤ 16396)
+pub batch-size : (size : ℕ) → noBatch size ≡ false → (12 ≤ size) × (size ≤ mostInput)
 batch-size size e =
     let p = neither (ltb size 12) _ e in
-    (ltb-false size 12 (p .0), ltb-false 16396 size (neither (ltb 16396 size) _ (p .1) .0))
+    (ltb-false size 12 (p .0), ltb-false mostInput size (neither (ltb mostInput size) _ (p .1) .0))
 
 module _ (plan s : List ℕ) where
   pub cut-text : noBatch (length s) ≡ true → refusalText 13 0 ≡ inputAnswer plan s

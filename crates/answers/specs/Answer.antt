@@ -5,9 +5,10 @@ use mathlib.Core.List.{List, [], _∷_, _++_}
 use lib.Dec.{eqb, ltb}
 use lib.ListN.{length, getD}
 use Rattle.definitions.specs.Values.{Val}
-use Rattle.definitions.specs.Grammar.{wordOf, constantIn}
+use Rattle.definitions.specs.Grammar.{wordOf, constantIn, mostVariables}
 use Rattle.definitions.specs.Plan.{planned}
-use Rattle.definitions.specs.Batch.{Word}
+use Rattle.definitions.specs.Batch.{Word, recordSize, lineSize}
+use Rattle.definitions.specs.Finder.{mostRows, mostQuota, mostColumns}
 use Rattle.definitions.specs.Calls.{Batch, toCompile, replyIn, bytesIn, runReply, recordsIn}
 use Rattle.definitions.specs.declared.Reply.{Reply}
 use Rattle.definitions.specs.declared.Reply.the-variants.{Done, Refused}
@@ -24,9 +25,13 @@ unfoldable pub valuesIn : List ℕ → ℕ → List Val
 valuesIn s zero = []
 valuesIn s (suc n) = valuesIn s n ++ (constantIn s (12 + 4 * n) ∷ [])
 
--- a length that holds no batch: too short for the numbers, longer than 256 rows of 16 values, or with a value cut short
+-- the most bytes of an input: the three numbers, and all values of the most rows
+abbrev pub mostInput : ℕ
+mostInput = 12 + 4 * (mostRows * mostVariables)
+
+-- a length that holds no batch: too short for the numbers, longer than any input, or with a value cut short
 abbrev pub noBatch : ℕ → Bool
-noBatch size = ltb size 12 || (ltb 16396 size || not (eqb (size % 4) 0))
+noBatch size = ltb size 12 || (ltb mostInput size || not (eqb (size % 4) 0))
 
 abbrev pub batchIn : List ℕ → List ℕ → Batch
 batchIn plan s =
@@ -39,10 +44,10 @@ abbrev pub planRoom : ℕ
 planRoom = 4578
 
 abbrev pub resultRoom : ℕ
-resultRoom = 4864
+resultRoom = mostRows * recordSize mostQuota
 
 abbrev pub workRoom : ℕ
-workRoom = 4608
+workRoom = mostRows * lineSize mostColumns
 
 -- of a batch: its records, or why it is refused
 unfoldable pub ranAnswer : Batch → Reply → List Word → List ℕ

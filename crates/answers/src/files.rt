@@ -1,11 +1,12 @@
 // The answer to what files hold.
+use crate::MOST_INPUT;
 use libc::STDOUT_FILENO;
 ghost use Rattle.io.specs.Counts.{Counts};
 
 // One byte more than the longest file, and than the longest input: enough to see that there is more.
 const FILE_ROOM: usize = 4097;
 
-const INPUT_ROOM: usize = 16397;
+const INPUT_ROOM: usize = MOST_INPUT + 1;
 
 // Reads the first bytes of a file into buf, and answers how many there are. Where there is no file, its descriptor is -1, which gives none.
 fn read_file(path: &[u8], buf: &mut [u8]) -> usize

@@ -2,13 +2,23 @@
 mod files;
 
 use definitions::LONGEST_PLAN;
+use definitions::ROWS;
 use definitions::Reply;
+use definitions::VARIABLES;
 pub use files::print;
+use layouts::MOST_LINES;
+use layouts::MOST_RECORDS;
 ghost use mathlib.Core.Path.{_≡_};
 ghost use Prim.Native.Nat.{_+_, _*_, _≤_};
 ghost use lib.ListN.{length, take};
 ghost use Rattle.io.specs.Counts.{Counts};
-ghost use Rattle.answers.specs.Answer.{numberIn, valuesIn, noBatch, batchIn, inputAnswer, batchAnswer, answerTo};
+ghost use Rattle.printing.specs.Text.{textRoom};
+ghost use Rattle.answers.specs.Answer.{numberIn, valuesIn, noBatch, mostInput, batchIn, inputAnswer, batchAnswer, answerTo};
+
+// The most values of a batch, and the most bytes of an input that holds one.
+const MOST_VALUES: usize = ROWS * VARIABLES;
+
+const MOST_INPUT: usize = 12 + 4 * MOST_VALUES;
 
 // The number in the four bytes at `at`.
 fn number(input: &[u8], at: usize) -> usize
@@ -41,12 +51,12 @@ fn put_batch(
     quota: usize,
     out: &mut [u8],
 ) -> usize
-    requires { ⌜ 65536 ≤ length (now out) ⌝ }
+    requires { ⌜ textRoom ≤ length (now out) ⌝ }
     ensures { λ r. ⌜ Counts r (now (out .exit)) ⌝ }
     ensures { λ r. ⌜ take r (now (out .exit)) ≡ batchAnswer (record { plan = now (plan .entry); rows = rows; values = now (values .entry); budget = budget; quota = quota }) ⌝ }
 {
-    let mut result = [0i32; 4864];
-    let mut work = [0i32; 4608];
+    let mut result = [0i32; MOST_RECORDS];
+    let mut work = [0i32; MOST_LINES];
     let reply = batches::run(plan, rows, values, budget, quota, &mut result, &mut work);
     match reply {
         Reply::Refused(f) => printing::put_refusal(f.number, f.place, out),
@@ -61,7 +71,7 @@ fn is_cut(size: usize) -> bool
     if size < 12 {
         return true;
     }
-    if 16396 < size {
+    if MOST_INPUT < size {
         return true;
     }
     size % 4 != 0
@@ -69,13 +79,13 @@ fn is_cut(size: usize) -> bool
 
 // The answer of a plan to an input that holds a batch.
 fn put_whole(plan: &[u8], input: &[u8], out: &mut [u8]) -> usize
-    requires { ⌜ (12 ≤ length (now input)) × (length (now input) ≤ 16396) ⌝ }
-    requires { ⌜ 65536 ≤ length (now out) ⌝ }
+    requires { ⌜ (12 ≤ length (now input)) × (length (now input) ≤ mostInput) ⌝ }
+    requires { ⌜ textRoom ≤ length (now out) ⌝ }
     ensures { λ r. ⌜ Counts r (now (out .exit)) ⌝ }
     ensures { λ r. ⌜ take r (now (out .exit)) ≡ batchAnswer (batchIn (now (plan .entry)) (now (input .entry))) ⌝ }
 {
     let n = (input.len() - 12) / 4;
-    let mut values = [0i32; 4096];
+    let mut values = [0i32; MOST_VALUES];
     put_values(input, &mut values, n);
     let rows = number(input, 0);
     let budget = number(input, 4);
@@ -85,7 +95,7 @@ fn put_whole(plan: &[u8], input: &[u8], out: &mut [u8]) -> usize
 
 // The answer of a plan to any input.
 fn put_input(plan: &[u8], input: &[u8], out: &mut [u8]) -> usize
-    requires { ⌜ 65536 ≤ length (now out) ⌝ }
+    requires { ⌜ textRoom ≤ length (now out) ⌝ }
     ensures { λ r. ⌜ Counts r (now (out .exit)) ⌝ }
     ensures { λ r. ⌜ take r (now (out .exit)) ≡ inputAnswer (now (plan .entry)) (now (input .entry)) ⌝ }
 {
@@ -97,7 +107,7 @@ fn put_input(plan: &[u8], input: &[u8], out: &mut [u8]) -> usize
 
 // Puts the answer at the start of out, and answers its length.
 pub fn answer(file: &[u8], input: &[u8], out: &mut [u8]) -> usize
-    requires { ⌜ 65536 ≤ length (now out) ⌝ }
+    requires { ⌜ textRoom ≤ length (now out) ⌝ }
     ensures { λ r. ⌜ Counts r (now (out .exit)) ⌝ }
     ensures { λ r. ⌜ take r (now (out .exit)) ≡ answerTo (now (file .entry)) (now (input .entry)) ⌝ }
 {

@@ -15,6 +15,7 @@ use Rattle.definitions.specs.Batch.{Word, recordSize, lineSize}
 use Rattle.definitions.specs.Finder.{mostRows, mostQuota}
 use Rattle.definitions.specs.Calls.{Batch, Ran, ranReply, runReply, mostBudget, columns, refusal}
 use Rattle.definitions.specs.declared.Reply.{Reply}
+use Rattle.definitions.specs.declared.Reply.the-variants.{Done}
 use Rattle.definitions.proofs.Tests.{or-right, less-or}
 use Rattle.plans.proofs.Planned.{plan-exactly}
 use Rattle.batches.specs.Replies.{Fitting, Low, UnderRule, misfit, high, shortOut, shortWork, done, ToRun, noPlan, under}
@@ -42,9 +43,9 @@ module _ (b : Batch) (r : Rule) (out work : ℕ) where
       go (inr f) (inr h) _ _ _ _ = (_, misfit (inr h))
       go (inr f) (inl g) (inl h) _ _ _ = (_, high (record { few = f; given = g }) (inl h))
       go (inr f) (inl g) (inr n) (inl h) _ _ = (_, high (record { few = f; given = g }) (inr h))
-      go (inr f) (inl g) (inr n) (inr l) (inl h) _ = (_, shortOut (record { few = f; given = g }) (record { rounds = n; labels = l }) h)
-      go (inr f) (inl g) (inr n) (inr l) (inr o) (inl h) = (_, shortWork (record { few = f; given = g }) (record { rounds = n; labels = l }) o h)
-      go (inr f) (inl g) (inr n) (inr l) (inr o) (inr w) = (_, done (record { few = f; given = g }) (record { rounds = n; labels = l }) o w)
+      go (inr f) (inl g) (inr n) (inr l) (inl h) _ = (_, shortOut (record { few = f; given = g }) (record { budget-low = n; quota-low = l }) h)
+      go (inr f) (inl g) (inr n) (inr l) (inr o) (inl h) = (_, shortWork (record { few = f; given = g }) (record { budget-low = n; quota-low = l }) o h)
+      go (inr f) (inl g) (inr n) (inr l) (inr o) (inr w) = (_, done (record { few = f; given = g }) (record { budget-low = n; quota-low = l }) o w)
 
   -- the tests of 13 and 14
   abbrev misfits : Bool
@@ -65,7 +66,7 @@ module _ (b : Batch) (r : Rule) (out work : ℕ) where
   is-high (inr h) = or-right (ltb mostBudget (b .budget)) _ (lt-ltb mostQuota (b .quota) h)
 
   is-low : Low b → highs ≡ false
-  is-low l = rw (le-ltb mostBudget (b .budget) (l .rounds), le-ltb mostQuota (b .quota) (l .labels))
+  is-low l = rw (le-ltb mostBudget (b .budget) (l .budget-low), le-ltb mostQuota (b .quota) (l .quota-low))
 
   -- and it is the one whose reply is given
   only-row : (q : Reply) → UnderRule b r out work q → ranReply b r out work ≡ q
@@ -98,3 +99,7 @@ pub run-exactly : (b : Batch) (out work : List Word) (r : Reply) (out′ work′
 run-exactly b out work r out′ work′ w q =
     let s = some-reply b (length out) (length work) in
     (λ e. rw (sym (only-reply b (length out) (length work) (s .0) (s .1)) ∙ sym (w .reply) ∙ e) at (s .1), λ h. w .reply ∙ only-reply b (length out) (length work) q h)
+
+-- a run that is done kept to the limits, and its records fit
+pub done-within : {b : Batch} {out work most : ℕ} {q : ℕ} → b .quota ≡ q → ToRun b out work (Done most) → (b .rows ≤ mostRows) × ((q ≤ mostQuota) × (b .rows * recordSize q ≤ out))
+done-within e (under p (done f l h _)) = rw (← e) (f .few, (l .quota-low, h))

@@ -20,19 +20,14 @@ use Rattle.definitions.specs.Finder.{Part, isNumber, foundIn, mostRows, mostQuo
 use Rattle.definitions.specs.Calls.{Batch, columns, tableIn}
 use Rattle.definitions.specs.declared.Reply.the-variants.{Done}
 use Rattle.definitions.proofs.Counts.{count-le}
-use Rattle.batches.specs.Layout.{linesIn}
-use Rattle.batches.specs.Limits.{within}
-use Rattle.batches.specs.Replies.{ToRun, under, done}
-use Rattle.batches.proofs.Finds.{found-line, found-record}
-use Rattle.batches.proofs.Buffers.{part-get}
+use Rattle.layouts.specs.Layout.{linesIn}
+use Rattle.finder.specs.Limits.{within}
+use Rattle.finder.proofs.Finds.{found-line, found-record}
+use Rattle.layouts.proofs.Buffers.{part-get}
 use Rattle.batches.proofs.Accepted.{is-proper}
 use Rattle.batches.proofs.Promises.{Called, recordAt, direct}
-use Rattle.batches.proofs.Exactly.{run-exactly}
+use Rattle.batches.proofs.Exactly.{run-exactly, done-within}
 use Rattle.batches.proofs.Searches.{addressOf, its-line}
-
--- ---- what the finder asks of its numbers
-limits : (b : Batch) (o w m q : ℕ) → b .quota ≡ q → ToRun b o w (Done m) → (b .rows ≤ mostRows) × (q ≤ mostQuota) × (b .rows * recordSize q ≤ o)
-limits b o w m q e (under p (done f l h _)) = rw (← e) (f .few, l .labels, h)
 
 -- ---- the promises
 
@@ -68,10 +63,10 @@ module _ (plan : List ℕ) (r : Rule) (n : ℕ) (accepted : planned plan ≡ got
     unfolding within
     inside =
         let c = a .called in
-        let l = limits batch (length (c .out)) (length (c .work)) (c .most) q (c .quota) (run-exactly batch (c .out) (c .work) (Done (c .most)) (a .result .now) (c .table) (c .ran) (Done (c .most)) .0 refl) in
+        let l = done-within (c .quota) (run-exactly batch (c .out) (c .work) (Done (c .most)) (a .result .now) (c .table) (c .ran) (Done (c .most)) .0 refl) in
         let kept : length (c .out) ≤ length (a .result .now) = omega (arith, simp (length-append, length-drop) at (ap length (c .ran .result))) in
         let narrow : columns r ≤ mostColumns = omega (arith, count-le (r .variables) (LC (flowOf r)), is-proper plan r n accepted .few) in
-        rw (lt-ltb k (batch .rows) (c .within), le-leb (batch .rows) mostRows (l .0), le-leb q mostQuota (l .1), le-leb (columns r) mostColumns narrow, le-leb (batch .rows * recordSize q) (length (a .result .now)) (omega arith))
+        rw (lt-ltb k (batch .rows) (c .within), le-leb (batch .rows) mostRows (l .0), le-leb q mostQuota (l .1 .0), le-leb (columns r) mostColumns narrow, le-leb (batch .rows * recordSize q) (length (a .result .now)) (omega arith))
 
     -- a row that has ended: its record, where it stands in the result buffer
     pub ended-found : (its .status ≡ unfinished → ⊥) → foundFor a ≡ (addressOf (a .result) (k * recordSize q), recordOf q its)

@@ -4,9 +4,9 @@ use mathlib.Core.Path.{_≡_, refl, sym, ap, _∙_}
 use mathlib.Core.Bool.{Bool, true, false}
 use Prim.Native.Nat.{ℕ, zero, suc, _+_, _-_, _*_, _≤_, _<_}
 use native.Mathlib.Omega.{arith}
-use mathlib.Core.List.{List, [], _∷_, _++_, map, append-assoc}
+use mathlib.Core.List.{List, [], _∷_, _++_, map, append-assoc, map-append}
 use lib.IntN.{pos, natAbs}
-use lib.ListN.{length, take, drop, getD, replicate, length-map, length-take}
+use lib.ListN.{length, take, drop, getD, replicate, length-take}
 use lib.Seq.{take-append-seam}
 use lib.Dec.{ltb}
 use borrow.Author.Tests.{ltb-true, ltb-false, ne-eqb}
@@ -21,13 +21,11 @@ use Rattle.definitions.specs.declared.Refusal.{Refusal}
 use Rattle.definitions.specs.declared.Reply.{Reply}
 use Rattle.definitions.specs.declared.Reply.the-variants.{Done, Refused}
 use Rattle.columns.specs.Proper.{Proper}
-use Rattle.columns.specs.Row.{Sound}
 use Rattle.columns.proofs.Rows.{Grown, after-add, after-done, after-grown, run-sound}
-use Rattle.batches.proofs.Buffers.{part-mid}
-use Rattle.batches.proofs.Looks.{record-length}
-use Rattle.batches.proofs.Rows.{all-map, map-append, records-append, records-length}
-use Rattle.batches.proofs.Starts.{starts-length, starts-sound}
-use Rattle.batches.proofs.Turns.{step}
+use Rattle.layouts.proofs.Buffers.{part-mid}
+use Rattle.layouts.proofs.Looks.{record-length}
+use Rattle.tables.proofs.Rows.{records-append}
+use Rattle.tables.proofs.Runs.{records-size}
 use Rattle.batches.proofs.Accepted.{is-proper}
 
 -- ---- every call
@@ -102,11 +100,10 @@ module _ (r : Rule) (ok : Proper r) where
       let s : State = startAt r values k in
       let c : Split r values rows k = starts-split r values rows k h in
       let before : List State = startsOf r values k in
-      let sound = all-map (Sound r q 0) (Sound r q (0 + N)) g (step r q ok N .sound 0) before (starts-sound r values ok q k) in
       let e : recordsOf q (map g (startsOf r values rows)) ++ tail ≡ recordsOf q (map g before) ++ (recordOf q (g s) ++ (recordsOf q (map g (c .rest)) ++ tail)) =
       ap (λ (l : List State). recordsOf q (map g l) ++ tail) (c .is) ∙ rw (map-append, records-append) (simp append-assoc) in
       rw e (part-mid (recordsOf q (map g before)) (recordOf q (g s)) (recordsOf q (map g (c .rest)) ++ tail) (k * recordSize q) (recordSize q)
-      (records-length r q (0 + N) (map g before) sound ∙ rw (length-map, starts-length r values k)) (record-length r q N (g s) (run-sound r q ok (take (r .arguments) (drop (k * r .arguments) values)) (args-few values k) N)))
+      (records-size r ok values (record { rows = k; budget = N }) q) (record-length r q N (g s) (run-sound r q ok (take (r .arguments) (drop (k * r .arguments) values)) (args-few values k) N)))
 
   its-own : (values args : List Val) (rows B Q N q k : ℕ) (results tail : List Word) → results ≡ recordsOf Q (map (after r Q B) (startsOf r values rows)) ++ tail
       → B ≡ N → Q ≡ q → take (r .arguments) (drop (k * r .arguments) values) ≡ args → k < rows → recordAt q k results ≡ recordOf q (after r q N (start r args))

@@ -1,13 +1,12 @@
 -- A call's reply, from its tests and from what its run leaves. Assumes nothing.
 use mathlib.Core.Path.{_≡_, refl, sym, ap, _∙_}
 use mathlib.Core.Bool.{Bool, true, false, cond, not, _||_}
-use Prim.Native.Nat.{ℕ, _*_, _≤_}
+use Prim.Native.Nat.{ℕ, _*_}
 use native.Mathlib.Omega.{arith}
 use mathlib.Core.List.{List}
 use lib.ListN.{length}
 use lib.Dec.{eqb, ltb}
 use borrow.Author.Tests.{ltb-false, eqb-true, not-false}
-use Rattle.definitions.specs.Values.{Val}
 use Rattle.definitions.specs.Rule.{Rule}
 use Rattle.definitions.specs.Grammar.{got, refused}
 use Rattle.definitions.specs.Plan.{planned}
@@ -17,8 +16,11 @@ use Rattle.definitions.specs.Calls.{Batch, Ran, ranReply, runReply, recordsIn, 
 use Rattle.definitions.specs.declared.Refusal.{Refusal}
 use Rattle.definitions.specs.declared.Reply.{Reply}
 use Rattle.definitions.specs.declared.Reply.the-variants.{Done, Refused}
-use Rattle.batches.specs.Layout.{width}
-use Rattle.batches.specs.Runs.{tested, Allowed, Left}
+use Rattle.layouts.specs.Layout.{width}
+use Rattle.layouts.specs.declared.Layout.{Layout}
+use Rattle.tables.specs.Runs.{Allowed, RowsRun}
+use Rattle.tables.specs.declared.Extent.{Extent}
+use Rattle.batches.specs.Tests.{tested}
 
 -- ---- one test after the other
 
@@ -38,41 +40,45 @@ stopped : (b : Bool) (f g : Refusal) (x y : Reply) → (x ≡ Refused g → y �
 stopped true f g x y h e = e
 stopped false f g x y h e = h e
 
-module _ (args size rows values budget quota out work : ℕ) where
-  pub tested-refused : (f : Refusal) (m : ℕ) → tested args size rows values budget quota out work 0 ≡ Refused f → tested args size rows values budget quota out work m ≡ Refused f
+module _ (l : Layout) (e : Extent) (values out work : ℕ) where
+  -- the tests of 13 and 14
+  abbrev misfit : Bool
+  misfit = ltb mostRows (e .rows) || not (eqb values (e .rows * l .arguments))
+
+  abbrev high : Bool
+  high = ltb mostBudget (e .budget) || ltb mostQuota (l .quota)
+
+  pub tested-refused : (f : Refusal) (m : ℕ) → tested l e values out work 0 ≡ Refused f → tested l e values out work m ≡ Refused f
   unfolding tested
   tested-refused f m =
-      stopped (ltb mostRows rows || not (eqb values (rows * args))) _ f _ _
-      (stopped (ltb mostBudget budget || ltb mostQuota quota) _ f _ _
-      (stopped (ltb out (rows * recordSize quota)) _ f _ _
-      (stopped (ltb work (rows * size)) _ f _ _
-      (λ e. let z : _≡_ {A = ℕ} 0 1 = cc in absurd (omega arith)))))
+      stopped misfit _ f _ _ (stopped high _ f _ _ (stopped (ltb out (e .rows * recordSize (l .quota))) _ f _ _ (stopped (ltb work (e .rows * l .size)) _ f _ _
+      (λ t. let z : _≡_ {A = ℕ} 0 1 = cc in absurd (omega arith)))))
 
-  pub tested-done : (k m : ℕ) → tested args size rows values budget quota out work 0 ≡ Done k → tested args size rows values budget quota out work m ≡ Done m
+  pub tested-done : (k m : ℕ) → tested l e values out work 0 ≡ Done k → tested l e values out work m ≡ Done m
   unfolding tested
-  tested-done k m e =
-      let p1 = passed (ltb mostRows rows || not (eqb values (rows * args))) _ _ k e in
-      let p2 = passed (ltb mostBudget budget || ltb mostQuota quota) _ _ k (p1 .1) in
-      let p3 = passed (ltb out (rows * recordSize quota)) _ _ k (p2 .1) in
-      let p4 = passed (ltb work (rows * size)) _ _ k (p3 .1) in
+  tested-done k m t =
+      let p1 = passed misfit _ _ k t in
+      let p2 = passed high _ _ k (p1 .1) in
+      let p3 = passed (ltb out (e .rows * recordSize (l .quota))) _ _ k (p2 .1) in
+      let p4 = passed (ltb work (e .rows * l .size)) _ _ k (p3 .1) in
       rw (p1 .0, p2 .0, p3 .0, p4 .0)
 
-  pub tested-allowed : (k : ℕ) → tested args size rows values budget quota out work 0 ≡ Done k → Allowed args size rows values budget quota out work
+  pub tested-allowed : (k : ℕ) → tested l e values out work 0 ≡ Done k → Allowed l e values out work
   unfolding tested
-  tested-allowed k e =
-      let p1 = passed (ltb mostRows rows || not (eqb values (rows * args))) _ _ k e in
-      let p2 = passed (ltb mostBudget budget || ltb mostQuota quota) _ _ k (p1 .1) in
-      let p3 = passed (ltb out (rows * recordSize quota)) _ _ k (p2 .1) in
-      let p4 = passed (ltb work (rows * size)) _ _ k (p3 .1) in
-      let t1 = no-test (ltb mostRows rows) _ (p1 .0) in
-      let t2 = no-test (ltb mostBudget budget) _ (p2 .0) in
+  tested-allowed k t =
+      let p1 = passed misfit _ _ k t in
+      let p2 = passed high _ _ k (p1 .1) in
+      let p3 = passed (ltb out (e .rows * recordSize (l .quota))) _ _ k (p2 .1) in
+      let p4 = passed (ltb work (e .rows * l .size)) _ _ k (p3 .1) in
+      let t1 = no-test (ltb mostRows (e .rows)) _ (p1 .0) in
+      let t2 = no-test (ltb mostBudget (e .budget)) _ (p2 .0) in
       record {
-        few = ltb-false mostRows rows (t1 .0);
-        given = eqb-true values (rows * args) (not-false _ (t1 .1));
-        rounds = ltb-false mostBudget budget (t2 .0);
-        labels = ltb-false mostQuota quota (t2 .1);
-        records = ltb-false out (rows * recordSize quota) (p3 .0);
-        table = ltb-false work (rows * size) (p4 .0);
+        rows-few = ltb-false mostRows (e .rows) (t1 .0);
+        given = eqb-true values (e .rows * l .arguments) (not-false _ (t1 .1));
+        budget-low = ltb-false mostBudget (e .budget) (t2 .0);
+        quota-low = ltb-false mostQuota (l .quota) (t2 .1);
+        records = ltb-false out (e .rows * recordSize (l .quota)) (p3 .0);
+        table = ltb-false work (e .rows * l .size) (p4 .0);
       }
 
 -- ---- the contract
@@ -82,9 +88,15 @@ pub ran-unplanned : (b : Batch) (out work : List Word) (k p : ℕ) → planned (
 unfolding runReply
 ran-unplanned b out work k p e = record { reply = rw e; result = refl; working = refl }
 
-module _ (b : Batch) (out work : List Word) (r : Rule) (n : ℕ) (accepted : planned (b .plan) ≡ got r n) (args size : ℕ) (ea : args ≡ r .arguments) (es : size ≡ width r) where
+module _ (b : Batch) (out work : List Word) (r : Rule) (n : ℕ) (accepted : planned (b .plan) ≡ got r n) (variables arguments lc size : ℕ) (ea : arguments ≡ r .arguments) (es : size ≡ width r) where
+  abbrev layout : Layout
+  layout = record { variables = variables; arguments = arguments; lc = lc; size = size; quota = b .quota }
+
+  abbrev extent : Extent
+  extent = record { rows = b .rows; budget = b .budget }
+
   abbrev answer : ℕ → Reply
-  answer m = tested args size (b .rows) (length (b .values)) (b .budget) (b .quota) (length out) (length work) m
+  answer m = tested layout extent (length (b .values)) (length out) (length work) m
 
   reply-is : runReply b (planned (b .plan)) (length out) (length work) ≡ answer (mostOf (rowsOf b r))
   unfolding runReply ranReply tested
@@ -92,15 +104,15 @@ module _ (b : Batch) (out work : List Word) (r : Rule) (n : ℕ) (accepted : pla
 
   pub ran-refused : (f : Refusal) → answer 0 ≡ Refused f → Ran b out work (Refused f) out work
   ran-refused f e = record {
-    reply = sym (reply-is ∙ tested-refused args size (b .rows) (length (b .values)) (b .budget) (b .quota) (length out) (length work) f (mostOf (rowsOf b r)) e);
+    reply = sym (reply-is ∙ tested-refused layout extent (length (b .values)) (length out) (length work) f (mostOf (rowsOf b r)) e);
     result = refl;
     working = refl;
   }
 
-  pub ran-done : (k : ℕ) → answer 0 ≡ Done k → (most : ℕ) (out' work' : List Word) → Left r (b .values) (b .rows) (b .budget) (b .quota) out work most out' work' → Ran b out work (Done most) out' work'
+  pub ran-done : (k : ℕ) → answer 0 ≡ Done k → (most : ℕ) (out' work' : List Word) → RowsRun r (b .values) extent (b .quota) out work most out' work' → Ran b out work (Done most) out' work'
   unfolding recordsIn tableIn
   ran-done k e most out' work' l = record {
-    reply = ap Done (l .most') ∙ sym (reply-is ∙ tested-done args size (b .rows) (length (b .values)) (b .budget) (b .quota) (length out) (length work) k (mostOf (rowsOf b r)) e);
+    reply = ap Done (l .most') ∙ sym (reply-is ∙ tested-done layout extent (length (b .values)) (length out) (length work) k (mostOf (rowsOf b r)) e);
     result = rw accepted (l .records);
     working = rw accepted (l .table);
   }

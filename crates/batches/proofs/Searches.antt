@@ -3,7 +3,7 @@ use Prim.Native.Nat.{ℕ, zero, suc, _+_, _-_, _*_, _<_}
 use native.Mathlib.Omega.{arith}
 use mathlib.Core.Path.{_≡_, refl, sym, ap, _∙_}
 use mathlib.Core.Bool.{Bool, true, false, cond}
-use mathlib.Core.List.{List, [], _∷_, _++_, map, append-assoc}
+use mathlib.Core.List.{List, [], _∷_, _++_, map, append-assoc, map-append}
 use lib.Dec.{eqb}
 use lib.IntN.{pos}
 use lib.ListN.{length, take, drop, length-append, length-map}
@@ -15,12 +15,12 @@ use Rattle.definitions.specs.Rule.{Rule}
 use Rattle.definitions.specs.Direct.{State, start, after}
 use Rattle.definitions.specs.Batch.{Word, goesOn, linesFrom, liveOf, startAt, statesOf}
 use Rattle.definitions.specs.Finder.{isNumber, isLine, lineIndex, linePart}
-use Rattle.batches.specs.Layout.{width, lineIn, linesIn}
-use Rattle.batches.proofs.Finds.{if-whole, line-found}
-use Rattle.batches.proofs.Buffers.{part-mid}
-use Rattle.batches.proofs.Looks.{line-length}
-use Rattle.batches.proofs.Rows.{map-append, lines-append, lines-length, live-length}
-use Rattle.batches.proofs.Starts.{starts-length}
+use Rattle.layouts.specs.Layout.{width, lineIn, linesIn}
+use Rattle.finder.proofs.Finds.{if-whole, line-found}
+use Rattle.layouts.proofs.Buffers.{part-mid}
+use Rattle.layouts.proofs.Looks.{line-length}
+use Rattle.tables.proofs.Rows.{lines-append, lines-length, live-length}
+use Rattle.tables.proofs.Starts.{starts-length}
 use Rattle.batches.proofs.Promises.{starts-split}
 
 -- ---- the first line with a row's number

@@ -1,6 +1,3 @@
-pub mod Limits
-pub mod Layout
-pub mod Table
+pub mod Tests
 pub mod DirectRun
-pub mod Runs
 pub mod Replies

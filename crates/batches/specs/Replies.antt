@@ -18,8 +18,8 @@ pub record Fitting (b : Batch) (r : Rule) : Type 0 where
   pub given : length (b .values) ≡ b .rows * r .arguments
 
 pub record Low (b : Batch) : Type 0 where
-  pub rounds : b .budget ≤ mostBudget
-  pub labels : b .quota ≤ mostQuota
+  pub budget-low : b .budget ≤ mostBudget
+  pub quota-low : b .quota ≤ mostQuota
 
 -- the plan is r's, and the two buffers have so many words: 13, 14, 12 for the output, 12 for the working buffer
 pub data UnderRule (b : Batch) (r : Rule) (out work : ℕ) : Reply → Type 0 where

@@ -16,7 +16,7 @@ use Rattle.definitions.specs.Batch.{goesOn}
 use Rattle.definitions.proofs.Columns.{entry-in-J}
 use Rattle.columns.specs.OnPlan.{narrowed, lineRound}
 use Rattle.columns.specs.Proper.{Proper}
-use Rattle.columns.specs.Row.{seen, joinedOn, advanceOn, afterOn, Sound}
+use Rattle.columns.specs.Row.{seen, joinedOn, advanceOn, afterOn, Sound, SoundNow}
 use Rattle.columns.proofs.Walks.{jumps-into-J, on-plan}
 use Rattle.columns.proofs.Keeping.{KeptRound, walk-kept}
 
@@ -129,6 +129,17 @@ module _ (r : Rule) (q : ℕ) where
         go true = rw (on-plan r ok q (s .block) (s .vars) (s .labels) (h .vars-all) (h .block-below) (h .block-in-J)) (seen-joined r s (roundOf r q s))
         go false = refl
 
+  pub sound-now : (n : ℕ) (s : State) → Sound r q n s → SoundNow r q s
+  sound-now n s h = record {
+    status-low = h .status-low;
+    began = omega arith;
+    going = λ z. refl;
+    labels-few = h .labels-few;
+    block-below = h .block-below;
+    block-in-J = h .block-in-J;
+    vars-all = h .vars-all;
+  }
+
   -- ---- round after round
   pub after-add : (n m : ℕ) (s : State) → after r q (n + m) s ≡ after r q m (after r q n s)
   unfolding after
@@ -167,6 +178,9 @@ module _ (r : Rule) (q : ℕ) where
       unfolding after afterOn
       seen-after zero = refl
       seen-after (suc n) = seen-advance ok (m + n) (after r q n s) (after-sound n) ∙ ap (advanceOn r q) (seen-after n)
+
+    pub after-now : (s : State) → SoundNow r q s → (n : ℕ) → SoundNow r q (after r q n s)
+    after-now s h n = sound-now (s .begun + n) (after r q n s) (after-sound (s .begun) s h n)
 
     -- the states of the direct run
     pub run-sound : (args : List Val) → length args ≤ r .variables → (n : ℕ) → Sound r q n (after r q n (start r args))

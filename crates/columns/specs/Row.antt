@@ -45,3 +45,7 @@ pub record Sound (r : Rule) (q n : ℕ) (s : State) : Type 0 where
   pub block-below : s .block < size r
   pub block-in-J : J (flowOf r) (s .block) ≡ true
   pub vars-all : length (s .vars) ≡ r .variables
+
+-- and of a state by the rounds that it has begun itself
+abbrev pub SoundNow : Rule → ℕ → State → Type 0
+SoundNow r q s = Sound r q (s .begun) s

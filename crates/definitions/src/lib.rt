@@ -13,6 +13,13 @@ pub const BLOCKS: usize = 64;
 
 pub const VARIABLES: usize = 16;
 
+// The most rows of a batch, the most labels and the most rounds of a row.
+pub const ROWS: usize = 256;
+
+pub const QUOTA: usize = 16;
+
+pub const BUDGET: usize = 65535;
+
 // How deep expressions and conditions go together, and endings.
 pub const DEPTH: u8 = 8;
 
@@ -57,6 +64,13 @@ pub enum Read {
 pub enum Reply {
     Done(usize),
     Refused(Refusal),
+}
+
+// Where a row's part lies: from a word of the result buffer on, from one of the working buffer on, or nowhere.
+pub enum Place {
+    InResult(usize),
+    InWork(usize),
+    Nowhere,
 }
 
 // The refusal of a call.

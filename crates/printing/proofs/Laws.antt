@@ -15,7 +15,7 @@ use borrow.Author.Tests.{ltb-true, ltb-false, lt-ltb, le-ltb}
 use mir.Syntax.{w32, w64}
 use mir.Val.{Fits, SFits, toZ, ofZ}
 use mir.Facts.{toZ-ofZ, sfits-widen}
-use Rattle.definitions.specs.Batch.{Word}
+use Rattle.definitions.specs.Batch.{Word, recordSize}
 use Rattle.io.specs.Counts.{Counts}
 use Rattle.io.proofs.Counting.{counts}
 use Rattle.io.specs.Digits.{digits, glyph, Fewest}
@@ -153,7 +153,7 @@ module _ (d : List ℕ) (at : ℕ) where
   unfolding over
   put-none =
       let e : at + 0 ≡ at = omega arith in
-      record { text = rw e (sym (take-append-drop at d)); after = omega arith }
+      record { text = rw e (sym (take-append-drop at d)); next' = omega arith }
 
   -- what was put there, by another name
   pub put-as : {s t new : List ℕ} {next : ℕ} → s ≡ t → Put d at s new next → Put d at t new next
@@ -161,13 +161,13 @@ module _ (d : List ℕ) (at : ℕ) where
 
   -- the buffer keeps its length
   pub put-length : {s new : List ℕ} {next : ℕ} → Put d at s new next → next ≤ length d → length new ≡ length d
-  put-length {s} p h = ap length (p .text) ∙ length-over d at s (omega (arith, p .after))
+  put-length {s} p h = ap length (p .text) ∙ length-over d at s (omega (arith, p .next'))
 
   pub put-then : {s t new last : List ℕ} {next end : ℕ} → Put d at s new next → next ≤ length d → Put new next t last end → Put d at (s ++ t) last end
   put-then {s} {t} {next = n} p h q =
       record {
-        text = q .text ∙ ap (λ (x : List ℕ). over x n t) (p .text) ∙ over-next d at s n t (p .after) (omega (arith, p .after));
-        after = omega (arith, p .after, q .after, length-append s t);
+        text = q .text ∙ ap (λ (x : List ℕ). over x n t) (p .text) ∙ over-next d at s n t (p .next') (omega (arith, p .next'));
+        next' = omega (arith, p .next', q .next', length-append s t);
       }
 
 -- ---- texts that grow at the end
@@ -181,10 +181,10 @@ unfolding wordsText
 words-more ws from i e = rw (add-one, e)
 
 -- a line, from what is put: x is the record's count as the code reads it, and n the labels that it shows
-pub line-is : (q : ℕ) (result : List Word) (row : ℕ) {x : Word} {n : ℕ} → x ≡ getD result (recordAt q row + 2) (pos 0) → n ≡ shown q x
-    → (decimal row ++ wordsText result (recordAt q row) (3 + n)) ++ newline ≡ lineText q result row
+pub line-is : (q : ℕ) (result : List Word) (row : ℕ) {from : ℕ} {x : Word} {n words : ℕ} → from ≡ recordAt q row → x ≡ getD result (from + 2) (pos 0) → n ≡ shown q x → words ≡ recordSize n
+    → (decimal row ++ wordsText result from words) ++ newline ≡ lineText q result row
 unfolding lineText
-line-is q result row {n = n} e h = rw (h, e) (append-assoc (decimal row) (wordsText result (recordAt q row) _) newline)
+line-is q result row ef e h ew = rw (ew, h, e, ef) (append-assoc (decimal row) (wordsText result (recordAt q row) _) newline)
 
 pub lines-none : (q : ℕ) (result : List Word) → [] ≡ linesText q result 0
 unfolding linesText
@@ -208,6 +208,6 @@ module _ (q : ℕ) (x : ℤ) (f : SFits w32 x) where
 -- ---- a text from the start of a buffer on
 pub put-whole : (d s : List ℕ) {new : List ℕ} {next : ℕ} → Put d 0 s new next → next ≤ length d → Counts next new × (take next new ≡ s)
 put-whole d s {new} {next} p h =
-    let e : next ≡ length s = omega (arith, p .after) in
+    let e : next ≡ length s = omega (arith, p .next') in
     let w : new ≡ s ++ drop (length s) d = p .text ∙ over-start d s in
     (counts next new (omega (arith, put-length d 0 p h)), rw w (take-at s (drop (length s) d) next (sym e)))

@@ -7,6 +7,7 @@ use lib.Dec.{ltb}
 use lib.IntN.{pos, negsuc}
 use lib.ListN.{length, getD}
 use Rattle.definitions.specs.Batch.{Word, recordSize}
+use Rattle.definitions.specs.Finder.{mostQuota}
 use Rattle.buffers.specs.Words.{over}
 
 -- ---- numbers
@@ -54,7 +55,11 @@ recordAt q row = row * recordSize q
 -- a row's line: its number; status, rounds and count; the labels
 unfoldable pub lineText : ℕ → List Word → ℕ → List ℕ
 lineText q result row =
-    decimal row ++ (wordsText result (recordAt q row) (3 + shown q (getD result (recordAt q row + 2) (pos 0))) ++ newline)
+    decimal row ++ (wordsText result (recordAt q row) (recordSize (shown q (getD result (recordAt q row + 2) (pos 0)))) ++ newline)
+
+-- the most bytes that it takes: 3 digits, a record's words of 12 bytes each, with their spaces, and the newline
+abbrev pub lineRoom : ℕ
+lineRoom = 3 + 12 * recordSize mostQuota + 1
 
 -- the lines of the first rows
 unfoldable pub linesText : ℕ → List Word → ℕ → List ℕ
@@ -66,6 +71,10 @@ unfoldable pub answerText : List Word → ℕ → ℕ → ℕ → List ℕ
 answerText result rows q most =
     linesText q result rows ++ (((114 ∷ 111 ∷ 117 ∷ 110 ∷ 100 ∷ 115 ∷ space) ++ decimal most) ++ newline)
 
+-- room for all that is printed: the lines of the most rows and the last line fit
+abbrev pub textRoom : ℕ
+textRoom = 65536
+
 -- ---- a refusal: `refused `, its number and its place
 unfoldable pub refusalText : ℕ → ℕ → List ℕ
 refusalText number place =
@@ -74,4 +83,4 @@ refusalText number place =
 -- ---- writing: s is put into d from index `at` on, which gives new, and `next` is the index after it
 pub record Put (d : List ℕ) (at : ℕ) (s : List ℕ) (new : List ℕ) (next : ℕ) : Type 0 where
   pub text : new ≡ over d at s
-  pub after : next ≡ at + length s
+  pub next' : next ≡ at + length s

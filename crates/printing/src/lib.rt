@@ -4,8 +4,11 @@ ghost use Prim.Native.Nat.{_+_, _*_, _≤_, _<_};
 ghost use mathlib.Core.List.{_++_};
 ghost use lib.IntN.{natAbs};
 ghost use lib.ListN.{length, take};
+ghost use Rattle.definitions.specs.Finder.{mostRows, mostQuota};
 ghost use Rattle.io.specs.Counts.{Counts};
-ghost use Rattle.printing.specs.Text.{decimal, space, newline, wordText, wordsText, shown, recordAt, lineText, linesText, answerText, refusalText, Put};
+ghost use Rattle.printing.specs.Text.{decimal, space, newline, wordText, wordsText, shown, recordAt, lineText, linesText, lineRoom, answerText, refusalText, textRoom, Put};
+use layouts::record_at;
+use layouts::record_size;
 
 // How far x lies from 0.
 pub fn magnitude(x: i32) -> u64
@@ -89,16 +92,16 @@ fn labels(quota: usize, count: i32) -> usize
     if n < quota { n } else { quota }
 }
 
-// A row's line: at most 3 digits, 19 words and a newline.
+// A row's line.
 fn put_line(out: &mut [u8], at: usize, result: &[i32], row: usize, quota: usize) -> usize
-    requires { ⌜ (row < 256) × ((quota ≤ 16) × (recordAt quota (row + 1) ≤ length (now result))) ⌝ }
-    requires { ⌜ at + 240 ≤ length (now out) ⌝ }
+    requires { ⌜ (row < mostRows) × ((quota ≤ mostQuota) × (recordAt quota (row + 1) ≤ length (now result))) ⌝ }
+    requires { ⌜ at + lineRoom ≤ length (now out) ⌝ }
     ensures { λ r. ⌜ Put (now (out .entry)) at (lineText quota (now (result .entry)) row) (now (out .exit)) r ⌝ }
-    ensures { λ r. ⌜ r ≤ at + 240 ⌝ }
+    ensures { λ r. ⌜ r ≤ at + lineRoom ⌝ }
 {
-    let from = row * (3 + quota);
+    let from = record_at(row, quota);
     let count = result[from + 2];
-    let n = 3 + labels(quota, count);
+    let n = record_size(labels(quota, count));
     let next = put_number(out, at, row as u64);
     let end = put_words(out, next, result, from, n);
     put(out, end, b"\n")
@@ -106,10 +109,10 @@ fn put_line(out: &mut [u8], at: usize, result: &[i32], row: usize, quota: usize)
 
 // The lines of all rows.
 fn put_lines(out: &mut [u8], result: &[i32], rows: usize, quota: usize) -> usize
-    requires { ⌜ (rows ≤ 256) × ((quota ≤ 16) × (recordAt quota rows ≤ length (now result))) ⌝ }
-    requires { ⌜ 240 * rows ≤ length (now out) ⌝ }
+    requires { ⌜ (rows ≤ mostRows) × ((quota ≤ mostQuota) × (recordAt quota rows ≤ length (now result))) ⌝ }
+    requires { ⌜ lineRoom * rows ≤ length (now out) ⌝ }
     ensures { λ r. ⌜ Put (now (out .entry)) 0 (linesText quota (now (result .entry)) rows) (now (out .exit)) r ⌝ }
-    ensures { λ r. ⌜ r ≤ 240 * rows ⌝ }
+    ensures { λ r. ⌜ r ≤ lineRoom * rows ⌝ }
 {
     let mut next = 0;
     let mut row = 0;
@@ -141,10 +144,10 @@ fn put_last(out: &mut [u8], at: usize, s: &[u8], n: u64) -> usize
     put(out, next, b"\n")
 }
 
-// The text of a batch's result: 256 lines and the last one fit into 65,536 bytes.
+// The text of a batch's result.
 pub fn put_answer(result: &[i32], rows: usize, quota: usize, most: usize, out: &mut [u8]) -> usize
-    requires { ⌜ (rows ≤ 256) × ((quota ≤ 16) × (recordAt quota rows ≤ length (now result))) ⌝ }
-    requires { ⌜ 65536 ≤ length (now out) ⌝ }
+    requires { ⌜ (rows ≤ mostRows) × ((quota ≤ mostQuota) × (recordAt quota rows ≤ length (now result))) ⌝ }
+    requires { ⌜ textRoom ≤ length (now out) ⌝ }
     ensures { λ r. ⌜ Counts r (now (out .exit)) ⌝ }
     ensures { λ r. ⌜ take r (now (out .exit)) ≡ answerText (now (result .entry)) rows quota most ⌝ }
 {
@@ -154,7 +157,7 @@ pub fn put_answer(result: &[i32], rows: usize, quota: usize, most: usize, out: &
 
 // The text of a refusal.
 pub fn put_refusal(number: u8, place: usize, out: &mut [u8]) -> usize
-    requires { ⌜ 65536 ≤ length (now out) ⌝ }
+    requires { ⌜ textRoom ≤ length (now out) ⌝ }
     ensures { λ r. ⌜ Counts r (now (out .exit)) ⌝ }
     ensures { λ r. ⌜ take r (now (out .exit)) ≡ refusalText number place ⌝ }
 {

@@ -56,6 +56,6 @@ fn with_work(find: Find, result: &[i32], work: &mut [i32]) -> bool
     if !input::fill_words(work) {
         return false;
     }
-    output::words(batches::find(result, work, find.rows, find.quota, find.columns, find.row));
+    output::words(finder::find(result, work, find.rows, find.quota, find.columns, find.row));
     true
 }

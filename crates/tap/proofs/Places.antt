@@ -1,51 +1,44 @@
--- Where the finder's part lies. Assumes nothing.
-use Prim.Native.Nat.{ℕ, _+_, _*_, _≤_, _<_}
-use mathlib.Core.Path.{_≡_, refl}
-use mathlib.Core.Bool.{Bool, true, false}
+-- A place's first word is small, so that an answer's halves can be told apart. Assumes nothing.
+use Prim.Native.Nat.{ℕ, _+_, _*_, _<_}
+use native.Mathlib.Omega.{arith}
+use mathlib.Core.Path.{_≡_}
 use mathlib.Core.List.{List}
-use lib.Dec.{ltb}
-use lib.IntN.{pos}
-use lib.ListN.{length, getD}
 use denote.Ref.{RefT}
-use borrow.Author.Tests.{lt-ltb, le-ltb}
-use Rattle.definitions.specs.Batch.{Word, recordSize, lineSize}
-use Rattle.definitions.specs.Finder.{isNumber, lineIndex, linePart, foundIn}
-use Rattle.batches.specs.Limits.{within}
-use Rattle.batches.proofs.Finds.{found-none, found-line, found-record}
+use Rattle.definitions.specs.Batch.{Word}
+use Rattle.definitions.specs.declared.Place.{Place}
+use Rattle.definitions.specs.declared.Place.the-variants.{InResult, InWork, Nowhere}
+use Rattle.finder.specs.Place.{placeIn}
+use Rattle.finder.proofs.Places.{Lying, lying}
 use Rattle.tap.specs.Packed.{half}
-use Rattle.tap.specs.Place.{placed, linePlace, placeIn, LiesAt}
+use Rattle.tap.specs.Place.{firstWord, placed}
 
-module _ (result work : List Word) (rows quota columns row : ℕ) where
-  pub place-none : within rows quota columns row (length result) ≡ false → 0 ≡ placed (placeIn result work rows quota columns row)
-  unfolding placeIn placed
-  place-none e = rw e
+first-low : (result work : List Word) (quota columns : ℕ) (p : Place) → Lying result work quota columns p → firstWord p < half
+unfolding Lying firstWord
+first-low result work quota columns (InResult at) h = omega (arith, h .low)
+first-low result work quota columns (InWork at) h = omega (arith, h .low)
+first-low result work quota columns Nowhere h = omega arith
 
-  module _ (e : within rows quota columns row (length result) ≡ true) where
-    pub place-record : isNumber (getD result (row * recordSize quota) (pos 0)) 0 ≡ false → half + row * recordSize quota ≡ placed (placeIn result work rows quota columns row)
-    unfolding placeIn placed
-    place-record s = rw (e, s)
+-- what the finder answers can be packed
+pub place-low : (result work : RefT (List Word)) (rows quota columns row : ℕ) (p : Place) → p ≡ placeIn (result .now) (work .now) rows quota columns row → firstWord p < half
+place-low result work rows quota columns row p e = rw e (first-low (result .now) (work .now) quota columns _ (lying result work rows quota columns row))
 
-    module _ (s : isNumber (getD result (row * recordSize quota) (pos 0)) 0 ≡ true) (i : ℕ) (is : i ≡ lineIndex work (lineSize columns) row 0 rows) where
-      pub place-line : i < rows → 2 * half + i * lineSize columns ≡ placed (placeIn result work rows quota columns row)
-      unfolding placeIn linePlace placed
-      place-line h = rw (e, s, ← is, lt-ltb i rows h)
+module _ (p : Place) (at : ℕ) where
+  pub pack-result : p ≡ InResult at → half + at ≡ placed p
+  unfolding placed
+  pack-result e = rw e
 
-      pub place-lost : rows ≤ i → 0 ≡ placed (placeIn result work rows quota columns row)
-      unfolding placeIn linePlace placed
-      place-lost h = rw (e, s, ← is, le-ltb i rows h)
+  pub pack-work : p ≡ InWork at → 2 * half + at ≡ placed p
+  unfolding placed
+  pack-work e = rw e
 
--- the finder's part lies there
-pub lies : (result work : RefT (List Word)) (rows quota columns row : ℕ)
-    → LiesAt result work quota columns (placeIn (result .now) (work .now) rows quota columns row) (foundIn result work rows quota columns row)
-unfolding placeIn linePlace linePart LiesAt
-lies result work rows quota columns row =
-    go (within rows quota columns row (length (result .now))) (isNumber (getD (result .now) (row * recordSize quota) (pos 0)) 0) (ltb (lineIndex (work .now) (lineSize columns) row 0 rows) rows) refl refl refl
-  where
-    go :
-        (a b c : Bool) → within rows quota columns row (length (result .now)) ≡ a → isNumber (getD (result .now) (row * recordSize quota) (pos 0)) 0 ≡ b
-        → ltb (lineIndex (work .now) (lineSize columns) row 0 rows) rows ≡ c
-        → LiesAt result work quota columns (placeIn (result .now) (work .now) rows quota columns row) (foundIn result work rows quota columns row)
-    go false b c p q s = rw (p, ← found-none result work rows quota columns row p)
-    go true false c p q s = rw (p, q, ← found-record result work rows quota columns row p q)
-    go true true true p q s = rw (p, q, s, ← found-line result work rows quota columns row p q, s)
-    go true true false p q s = rw (p, q, s, ← found-line result work rows quota columns row p q, s)
+  pub room-result : p ≡ InResult at → firstWord p < half → at < half
+  unfolding firstWord
+  room-result e h = rw e at h
+
+  pub room-work : p ≡ InWork at → firstWord p < half → at < half
+  unfolding firstWord
+  room-work e h = rw e at h
+
+pub pack-nowhere : (p : Place) → p ≡ Nowhere → 0 ≡ placed p
+unfolding placed
+pack-nowhere p e = rw e

@@ -2,9 +2,15 @@
 ghost use mathlib.Core.Path.{_≡_};
 ghost use Rattle.definitions.specs.Plan.{planned};
 ghost use Rattle.definitions.specs.Calls.{Wrote, Ran, toRead, toWrite, toCompile, columnsReply};
-ghost use Rattle.tap.specs.Packed.{packed, Clear, Stands};
-ghost use Rattle.tap.specs.Place.{placed, placeIn};
+ghost use Prim.Native.Nat.{_<_};
+ghost use Rattle.finder.specs.Place.{placeIn};
+ghost use Rattle.tap.specs.Packed.{half, packed, Clear, Stands};
+ghost use Rattle.tap.specs.Place.{firstWord, placed};
+use definitions::Place;
 use definitions::Reply;
+
+// The value of the lowest of the upper 32 bits.
+const HALF: u64 = 4294967296;
 
 // A reply in 64 bits.
 fn pack(r: Reply) -> u64
@@ -16,7 +22,7 @@ fn pack(r: Reply) -> u64
         Reply::Refused(f) => {
             let number = f.number as u64;
             let place = f.place as u64;
-            number * 4294967296 + place
+            number * HALF + place
         }
     }
 }
@@ -86,23 +92,16 @@ pub extern "C" fn tap_run(
     pack(r)
 }
 
-// Where the part lies that the finder gives.
-fn place(result: &[i32], work: &[i32], rows: usize, quota: usize, columns: usize, row: usize) -> u64
-    ensures { λ x. ⌜ x ≡ placed (placeIn (now (result .entry)) (now (work .entry)) rows quota columns row) ⌝ }
+// A place in 64 bits.
+fn pack_place(p: Place) -> u64
+    requires { ⌜ firstWord p < half ⌝ }
+    ensures { λ x. ⌜ x ≡ placed p ⌝ }
 {
-    if batches::allowed(rows, quota, columns, row, result.len()) {
-        let at = row * (3 + quota);
-        if batches::is_number(result[at], 0) {
-            let size = 2 + columns;
-            let i = batches::line_index(work, rows, size, row);
-            if i < rows {
-                return 8589934592 + (i * size) as u64;
-            }
-            return 0;
-        }
-        return 4294967296 + at as u64;
+    match p {
+        Place::InResult(at) => HALF + at as u64,
+        Place::InWork(at) => 2 * HALF + at as u64,
+        Place::Nowhere => 0,
     }
-    0
 }
 
 #[no_mangle]
@@ -116,12 +115,13 @@ pub extern "C" fn tap_find(
 ) -> u64
     ensures { λ x. ⌜ x ≡ placed (placeIn (now (result .entry)) (now (work .entry)) rows quota columns row) ⌝ }
 {
-    place(
+    let p = finder::place_in(
         result,
         work,
         rows as usize,
         quota as usize,
         columns as usize,
         row as usize,
-    )
+    );
+    pack_place(p)
 }

@@ -10,7 +10,7 @@ returns c =
     let a = c .before .before .before .before .before .before .before .before .before .before .before .args in
     let p = c .before .before .before .before .before .before .before .put-labelled .ensures in
     let q = c .before .before .put .ensures in
-    (put-then (a .out .now) (a .at) (p .0) (omega (arith, p .1)) q, omega (arith, p .1, q .after))
+    (put-then (a .out .now) (a .at) (p .0) (omega (arith, p .1)) q, omega (arith, p .1, q .next'))
 
 pub put-last-spec : {M : Type 1} → statement M
 put-last-spec =

@@ -3,13 +3,14 @@ use Prim.Native.Nat.{_+_, _-_, _*_, _≤_}
 use mathlib.Core.Path.{_≡_}
 use native.Mathlib.Nat.{mul-le-mul-right}
 use native.Mathlib.Omega.{arith}
-use Rattle.printing.specs.Text.{linesText, Put}
+use Rattle.definitions.specs.Batch.{recordSize}
+use Rattle.printing.specs.Text.{linesText, lineRoom, Put}
 use Rattle.printing.proofs.Laws.{put-none, put-as, put-length, put-then, lines-none, lines-more}
 use Rattle.printing.proofs.put_lines.Statement.{statement}
 use Rattle.printing.proofs.put_lines.Tie as tie
 
 abbrev Inv-loop : tie.InvT-loop
-Inv-loop out₀ result rows quota next₀ row₀ out next row = (row ≤ rows) × ((next ≤ 240 * row) × Put out₀ 0 (linesText quota result row) out next)
+Inv-loop out₀ result rows quota next₀ row₀ out next row = (row ≤ rows) × ((next ≤ lineRoom * row) × Put out₀ 0 (linesText quota result row) out next)
 
 abbrev μ-loop : tie.MeasureT-loop
 μ-loop out₀ result rows quota next₀ row₀ out next row = rows - row
@@ -25,7 +26,7 @@ put-line-requires c κs =
     let l = c .before .before .loop in
     let h : l .row + 1 ≤ a .rows = omega arith in
     let k = put-length (a .out .now) 0 (l .inv .1 .1) (omega arith) in
-    ((omega arith, (omega arith, omega (arith, mul-le-mul-right (3 + a .quota) h))), omega arith)
+    ((omega arith, (omega arith, omega (arith, mul-le-mul-right (recordSize (a .quota)) h))), omega arith)
 
 loop-again : tie.Need-loop-again Inv-loop μ-loop
 loop-again c =

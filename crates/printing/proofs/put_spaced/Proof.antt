@@ -15,7 +15,7 @@ returns c =
     let p = c .before .before .before .before .before .before .put .ensures in
     let q = c .before .before .put-word .ensures in
     let w = ap (λ v. space ++ wordText v) (toZ-ofZ (s .fits .x)) in
-    (put-as (s .args .out .now) (s .args .at) w (put-then (s .args .out .now) (s .args .at) p (omega (arith, p .after)) (q .0)), omega (arith, p .after, q .1))
+    (put-as (s .args .out .now) (s .args .at) w (put-then (s .args .out .now) (s .args .at) p (omega (arith, p .next')) (q .0)), omega (arith, p .next', q .1))
 
 pub put-spaced-spec : {M : Type 1} → statement M
 put-spaced-spec =

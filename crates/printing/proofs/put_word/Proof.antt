@@ -10,8 +10,8 @@ put-number-requires c κs =
     let s = c .before .before .before .before .before .before .before .before .before in
     let p = c .before .before .before .before .put .ensures in
     let r = word-room (s .args .x) (s .fits .x) (c .magnitude .result) (c .magnitude .ensures) in
-    let l = put-length (s .args .out .now) (s .args .at) p (omega (arith, p .after)) in
-    omega (arith, p .after)
+    let l = put-length (s .args .out .now) (s .args .at) p (omega (arith, p .next')) in
+    omega (arith, p .next')
 
 put-number-requires-2 : tie.Need-put-number-requires-2
 put-number-requires-2 c κs =
@@ -26,7 +26,7 @@ returns c =
     let q = c .before .before .put-number .ensures in
     let r = word-room (s .args .x) (s .fits .x) (m .result) (m .ensures) in
     let t = negative-text (s .args .x) (s .fits .x) (m .result) (m .ensures) (c .before .before .before .before .before .before .before .before .before .before .if1 .taken) in
-    (put-as (s .args .out .now) (s .args .at) t (put-then (s .args .out .now) (s .args .at) p (omega (arith, p .after)) q), omega (arith, p .after, q .after))
+    (put-as (s .args .out .now) (s .args .at) t (put-then (s .args .out .now) (s .args .at) p (omega (arith, p .next')) q), omega (arith, p .next', q .next'))
 
 returns-2 : tie.Need-returns-2
 returns-2 c =
@@ -34,7 +34,7 @@ returns-2 c =
     let m = c .before .before .before .magnitude2 in
     let q = c .before .before .put-number2 .ensures in
     let t = plain-text (s .args .x) (s .fits .x) (m .result) (m .ensures) (c .before .before .before .before .before .if1 .left) in
-    (put-as (s .args .out .now) (s .args .at) t q, omega (arith, q .after, word-room (s .args .x) (s .fits .x) (m .result) (m .ensures)))
+    (put-as (s .args .out .now) (s .args .at) t q, omega (arith, q .next', word-room (s .args .x) (s .fits .x) (m .result) (m .ensures)))
 
 pub put-word-spec : {M : Type 1} → statement M
 put-word-spec =

@@ -1,0 +1,60 @@
+// One row carried on, round by round.
+ghost use Prim.Native.Nat.{_≤_};
+ghost use lib.ListN.{length, take};
+ghost use Rattle.definitions.specs.Direct.{after};
+ghost use Rattle.columns.specs.Proper.{Proper};
+ghost use Rattle.plans.specs.Accepted.{ruleIn};
+ghost use Rattle.carries.specs.Carry.{Running, InHand, ProgressTo};
+use definitions::VARIABLES;
+use rounds::Rule;
+
+// Where a row stands: its next block, and how many labels it has.
+pub struct Spot {
+    pub block: u8,
+    pub count: usize,
+}
+
+// How far a row was carried on: its status, how many rounds it began on the way, its next block and how many labels it has.
+pub struct Progress {
+    pub status: u8,
+    pub rounds: usize,
+    pub block: u8,
+    pub count: usize,
+}
+
+// Up to `budget` rounds of one row, which stands in `labels` and `vars`.
+pub fn carry(
+    plan: &[u8],
+    rule: &Rule,
+    quota: usize,
+    budget: usize,
+    spot: Spot,
+    labels: &mut [i32],
+    vars: &mut [i32; VARIABLES],
+) -> Progress
+    requires { ⌜ Running (now plan) (now rule) × Proper (ruleIn (now plan)) ⌝ }
+    requires { ⌜ (spot .count ≤ quota) × (quota ≤ length (now labels)) ⌝ }
+    requires { ⌜ InHand (ruleIn (now plan)) quota (spot .block) (take (spot .count) (now labels)) (now vars) ⌝ }
+    ensures { λ r. ⌜ ((k : InHand (ruleIn (now (plan .entry))) quota (spot .block) (take (spot .count) (now (labels .entry))) (now (vars .entry)))
+        → ProgressTo (ruleIn (now (plan .entry))) (k .state) (after (ruleIn (now (plan .entry))) quota budget (k .state)) r (now (labels .exit)) (now (vars .exit))) ⌝ }
+{
+    let mut c = Progress {
+        status: 0,
+        rounds: 0,
+        block: spot.block,
+        count: spot.count,
+    };
+    while c.rounds < budget {
+        if c.status != 0 {
+            return c;
+        }
+        let e = rounds::round(plan, rule, quota, c.block, vars, labels, c.count);
+        c = Progress {
+            status: e.status,
+            rounds: c.rounds + 1,
+            block: e.block,
+            count: e.count,
+        };
+    }
+    c
+}

@@ -1,0 +1,4 @@
+pub mod Sizes
+pub mod Buffers
+pub mod Lines
+pub mod Looks

@@ -1,0 +1,95 @@
+-- Laws of a line and a record as the code reads and writes them. Assumes nothing.
+use mathlib.Core.Path.{_≡_, refl, sym, ap, _∙_}
+use mathlib.Core.Bool.{Bool, true, false}
+use Prim.Native.Nat.{ℕ, _+_, _-_, _≤_, _<_}
+use native.Mathlib.Omega.{arith}
+use native.Mathlib.Numerals.{add-one}
+use native.Mathlib.Nat.{add-zero}
+use mathlib.Core.List.{List, [], _∷_, _++_, append-nil}
+use lib.IntN.{pos}
+use lib.ListN.{length, take, drop, getD, set, replicate, length-set, take-append-drop}
+use lib.Seq.{getD-drop}
+use mir.Syntax.{w32}
+use mir.Val.{toZ}
+use mir.Facts.{toZ-pos}
+use Rattle.buffers.specs.Words.{over}
+use Rattle.buffers.proofs.Laws.{over-set, over-next, over-pair, length-over}
+use Rattle.definitions.specs.Values.{Val}
+use Rattle.definitions.specs.Grammar.{mostVariables}
+use Rattle.definitions.specs.Batch.{Word, countTo, columnsOf}
+use Rattle.definitions.specs.Finder.{mostRows, mostQuota}
+use Rattle.definitions.specs.Calls.{mostBudget}
+use Rattle.definitions.proofs.Counts.{count-before, columns-length}
+use Rattle.columns.specs.OnPlan.{spread}
+
+-- ---- the columns, one variable after the other
+module _ (f : ℕ → Bool) where
+  -- d₀ with the columns among the first k variables put in from at on, which gives d
+  abbrev pub ColumnsPut : List Word → ℕ → List Val → List Word → ℕ → Type 0
+  ColumnsPut d₀ at vars d k = (length d ≡ length d₀) × (d ≡ over d₀ at (columnsOf k f vars))
+
+  pub put-none : (d : List Word) (at : ℕ) (vars : List Val) → ColumnsPut d at vars d 0
+  unfolding columnsOf over
+  put-none d at vars = (refl, sym (ap (λ (n : ℕ). take at d ++ drop n d) (add-zero at) ∙ take-append-drop at d))
+
+  -- a column's place lies in the line
+  pub column-in : (at k v n m : ℕ) → k < v → at + countTo v f ≤ m → f k ≡ true → n ≡ countTo k f → at + n < m
+  column-in at k v n m h l e en = omega (arith, count-before k v f h e)
+
+  -- the next variable is a column
+  pub put-one : (d₀ d d' : List Word) (at k v n : ℕ) (vars : List Val) (z : Val) → k < v → at + countTo v f ≤ length d₀ → f k ≡ true → n ≡ countTo k f → z ≡ getD vars k (pos 0)
+      → d' ≡ set d (at + n) z → ColumnsPut d₀ at vars d k → ColumnsPut d₀ at vars d' (k + 1)
+  unfolding columnsOf
+  put-one d₀ d d' at k v n vars z h l e en ez ed p =
+      let c = columns-length k f vars in
+      let b = count-before k v f h e in (
+        rw ed (length-set d (at + n) z ∙ p .0),
+        rw (ed, en, ez, add-one, e, p .1) (
+            over-set (over d₀ at (columnsOf k f vars)) (at + countTo k f) (getD vars k (pos 0)) (omega (arith, length-over d₀ at (columnsOf k f vars) (omega arith)))
+            ∙ over-next d₀ at (columnsOf k f vars) (at + countTo k f) (getD vars k (pos 0) ∷ []) (omega arith) (omega arith)
+            ),
+      )
+
+  -- or it is not
+  pub put-skip : (d₀ d d' : List Word) (at k : ℕ) (vars : List Val) → f k ≡ false → d' ≡ d → ColumnsPut d₀ at vars d k → ColumnsPut d₀ at vars d' (k + 1)
+  unfolding columnsOf
+  put-skip d₀ d d' at k vars e ed p = rw (ed, add-one, e, append-nil) p
+
+  -- the variables of a line's columns, likewise
+  pub spread-none : (cols : List Val) → replicate mostVariables (pos 0) ≡ spread 0 f cols
+  unfolding spread
+  spread-none cols = refl
+
+  pub spread-one : (d vars vars' : List Val) (at k n : ℕ) (z : Val) → f k ≡ true → n ≡ countTo k f → z ≡ getD d (at + n) (pos 0) → vars' ≡ set vars k z → vars ≡ spread k f (drop at d) → vars' ≡ spread (k + 1) f (drop at d)
+  unfolding spread
+  spread-one d vars vars' at k n z e en ez ev p = rw (ev, ez, en, add-one, e, p, getD-drop)
+
+  pub spread-skip : (vars vars' cols : List Val) (k : ℕ) → f k ≡ false → vars' ≡ vars → vars ≡ spread k f cols → vars' ≡ spread (k + 1) f cols
+  unfolding spread
+  spread-skip vars vars' cols k e ev p = rw (ev, add-one, e) p
+
+-- ---- what the stores of a line and of a record leave
+
+pub line-law : (d : List Word) (at row block : ℕ) (cols d' : List Word) → row < mostRows → block < 256 → at + 2 ≤ length d
+    → d' ≡ over (set (set d at (toZ w32 row)) (at + 1) (toZ w32 block)) (at + 2) cols → d' ≡ over d at (pos row ∷ pos block ∷ cols)
+line-law d at row block cols d' hr hb h e =
+    let w1 : toZ w32 row ≡ pos row = toZ-pos w32 (omega arith) in
+    let w2 : toZ w32 block ≡ pos block = toZ-pos w32 (omega arith) in
+    e ∙ rw (w1, w2, over-pair d at (pos row) (pos block) h) (over-next d at (pos row ∷ pos block ∷ []) (at + 2) cols refl (omega arith))
+
+-- a record's first three words
+head : (d : List Word) (at : ℕ) (a b c : Word) → at + 3 ≤ length d → set (set (set d at a) (at + 1) b) (at + 2) c ≡ over d at (a ∷ b ∷ c ∷ [])
+head d at a b c h =
+    let l = length-over d at (a ∷ b ∷ []) (omega arith) in
+    rw (over-pair d at a b (omega arith)) (over-set (over d at (a ∷ b ∷ [])) (at + 2) c (omega (arith, l)) ∙ over-next d at (a ∷ b ∷ []) (at + 2) (c ∷ []) refl (omega arith))
+
+pub record-law : (d : List Word) (at status begun count n : ℕ) (labels zeros d' d'' : List Word) → status < 256 → begun ≤ mostBudget → count ≤ mostQuota → length labels ≡ count → at + 3 + count ≤ length d
+    → d' ≡ over (set (set (set d at (toZ w32 status)) (at + 1) (toZ w32 begun)) (at + 2) (toZ w32 count)) (at + 3) labels → d'' ≡ over d' (at + 3 + count) zeros
+    → d'' ≡ over d at (pos status ∷ pos begun ∷ pos count ∷ (labels ++ zeros))
+record-law d at status begun count n labels zeros d' d'' hs hb hc hl h e e' =
+    let w1 : toZ w32 status ≡ pos status = toZ-pos w32 (omega arith) in
+    let w2 : toZ w32 begun ≡ pos begun = toZ-pos w32 (omega arith) in
+    let w3 : toZ w32 count ≡ pos count = toZ-pos w32 (omega arith) in
+    let one : d' ≡ over d at (pos status ∷ pos begun ∷ pos count ∷ labels) =
+    e ∙ rw (w1, w2, w3, head d at (pos status) (pos begun) (pos count) (omega arith)) (over-next d at (pos status ∷ pos begun ∷ pos count ∷ []) (at + 3) labels refl (omega arith)) in
+    e' ∙ rw one (over-next d at (pos status ∷ pos begun ∷ pos count ∷ labels) (at + 3 + count) zeros (omega arith) (omega arith))

@@ -1,0 +1,163 @@
+// The LOOP table: every unfinished row carried on by rounds, its line moved up in place.
+ghost use Prim.Native.Nat.{_≤_};
+ghost use lib.ListN.{length};
+ghost use Rattle.definitions.specs.Direct.{after};
+ghost use Rattle.plans.specs.Accepted.{ruleIn};
+ghost use Rattle.carries.specs.Carry.{Running};
+ghost use Rattle.layouts.specs.Layout.{Known};
+ghost use Rattle.layouts.specs.Rows.{RowAt};
+ghost use Rattle.tables.specs.Table.{RowMayBegin, Turned, Table, RowsMayBegin, AfterPass};
+ghost use Rattle.tables.specs.Runs.{Allowed, ToStart, Started, RowsRun};
+use carries::Spot;
+use carries::carry;
+use layouts::Layout;
+use layouts::fetch;
+use layouts::put_line;
+use layouts::put_record;
+use layouts::read_row;
+use layouts::record_at;
+use rounds::Rule;
+
+// ---- one row
+
+// Where a row's line is read, and where it is written if the row goes on.
+pub struct Move {
+    pub from: usize,
+    pub to: usize,
+}
+
+// How far a row has come.
+pub struct Stage {
+    pub status: u8,
+    pub begun: usize,
+}
+
+// Up to `budget` rounds of the row whose line is moved: its record is written anew, and its line if it goes on.
+fn turn(
+    plan: &[u8],
+    rule: &Rule,
+    l: Layout,
+    budget: usize,
+    m: Move,
+    out: &mut [i32],
+    work: &mut [i32],
+) -> Stage
+    requires { ⌜ Running (now plan) (now rule) × (Known (ruleIn (now plan)) l × (m .to ≤ m .from)) ⌝ }
+    requires { ⌜ RowMayBegin budget (ruleIn (now plan)) (l .quota) (m .from) (now out) (now work) ⌝ }
+    ensures { λ r. ⌜ ((k : RowAt (ruleIn (now (plan .entry))) (l .quota) (m .from) (now (out .entry)) (now (work .entry)))
+        → Turned (ruleIn (now (plan .entry))) (l .quota) (k .row) (m .to) (after (ruleIn (now (plan .entry))) (l .quota) budget (k .state))
+        (now (out .entry)) (now (work .entry)) r (now (out .exit)) (now (work .exit))) ⌝ }
+{
+    let row = read_row(out, work, m.from, l);
+    let mut labels = row.labels;
+    let mut vars = row.vars;
+    let spot = Spot {
+        block: row.block,
+        count: row.count,
+    };
+    let c = carry(plan, rule, l.quota, budget, spot, &mut labels, &mut vars);
+    let begun = row.begun + c.rounds;
+    let at = record_at(row.row, l.quota);
+    put_record(out, at, l.quota, c.status, begun, c.count, &labels);
+    if c.status == 0 {
+        put_line(work, m.to, row.row, c.block, l.variables, l.lc, &vars);
+    }
+    Stage {
+        status: c.status,
+        begun,
+    }
+}
+
+// ---- all rows
+
+// How many rows go on, and the most rounds that any row began.
+pub struct Standing {
+    pub live: usize,
+    pub most: usize,
+}
+
+// Up to `budget` rounds of every unfinished row, from wherever the rows stand. The lines of those that go on move up.
+fn pass(
+    plan: &[u8],
+    rule: &Rule,
+    l: Layout,
+    budget: usize,
+    before: Standing,
+    out: &mut [i32],
+    work: &mut [i32],
+) -> Standing
+    requires { ⌜ Running (now plan) (now rule) × Known (ruleIn (now plan)) l ⌝ }
+    requires { ⌜ RowsMayBegin (λ _. budget) (ruleIn (now plan)) (l .quota) (before .live) (now out) (now work) ⌝ }
+    ensures { λ r. ⌜ ((t : Table (ruleIn (now (plan .entry))) (l .quota) (before .live) (now (out .entry)) (now (work .entry)))
+        → AfterPass (ruleIn (now (plan .entry))) (l .quota) before (now (out .entry)) (now (work .entry)) t (λ _. after (ruleIn (now (plan .entry))) (l .quota) budget)
+        r (now (out .exit)) (now (work .exit))) ⌝ }
+{
+    let live = before.live;
+    let mut i: usize = 0;
+    let mut kept: usize = 0;
+    let mut top = before.most;
+    while i < live {
+        let m = Move {
+            from: i * l.size,
+            to: kept * l.size,
+        };
+        let s = turn(plan, rule, l, budget, m, out, work);
+        if top < s.begun {
+            top = s.begun;
+        }
+        if s.status == 0 {
+            kept += 1;
+        }
+        i += 1;
+    }
+    Standing {
+        live: kept,
+        most: top,
+    }
+}
+
+// Every row's line at its start.
+fn put_starts(l: Layout, values: &[i32], rows: usize, work: &mut [i32])
+    requires { ⌜ ToStart l rows (now values) (now work) ⌝ }
+    ensures { λ _. ⌜ ((p : ToStart l rows (now (values .entry)) (now (work .entry))) → Started (p .rule) (now (values .entry)) rows (now (work .entry)) (now (work .exit))) ⌝ }
+{
+    let mut row: usize = 0;
+    while row < rows {
+        let vars = fetch(values, row * l.arguments, l.arguments);
+        put_line(work, row * l.size, row, 0, l.variables, l.lc, &vars);
+        row += 1;
+    }
+}
+
+// How many rows a call has, and how many rounds each may begin.
+pub struct Extent {
+    pub rows: usize,
+    pub budget: usize,
+}
+
+// All rows from their start on; the rest of the table is cleared. The most rounds that any row began.
+pub fn run_rows(
+    plan: &[u8],
+    rule: &Rule,
+    l: Layout,
+    e: Extent,
+    values: &[i32],
+    out: &mut [i32],
+    work: &mut [i32],
+) -> usize
+    requires { ⌜ Running (now plan) (now rule) × Known (ruleIn (now plan)) l ⌝ }
+    requires { ⌜ Allowed l e (length (now values)) (length (now out)) (length (now work)) ⌝ }
+    ensures { λ r. ⌜ RowsRun (ruleIn (now (plan .entry))) (now (values .entry)) e (l .quota) (now (out .entry)) (now (work .entry)) r (now (out .exit)) (now (work .exit)) ⌝ }
+{
+    let rows = e.rows;
+    buffers::clear_at(out, 0, record_at(rows, l.quota));
+    put_starts(l, values, rows, work);
+    let first = Standing {
+        live: rows,
+        most: 0,
+    };
+    let s = pass(plan, rule, l, e.budget, first, out, work);
+    let live = s.live;
+    buffers::clear_at(work, live * l.size, (rows - live) * l.size);
+    s.most
+}
