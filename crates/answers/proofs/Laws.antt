@@ -10,27 +10,26 @@ use borrow.Author.Tests.{ltb-false}
 use lib.IntN.{pos}
 use lib.ListN.{length, take, drop, set, getD, replicate}
 use lib.Seq.{take-suc-set}
-use Rattle.definitions.specs.Values.{Val}
+use Rattle.definitions.specs.Values.{Word}
 use Rattle.definitions.specs.Grammar.{Got, got, refused, constantIn}
-use Rattle.definitions.specs.Plan.{planned}
-use Rattle.definitions.specs.Batch.{Word}
+use Rattle.definitions.specs.Plan.{planned, longestPlan}
 use Rattle.definitions.specs.Calls.{Batch, refusal, Ran, Wrote, runReply, recordsIn, toCompile, replyIn}
 use Rattle.definitions.specs.declared.Refusal.{Refusal}
 use Rattle.definitions.specs.declared.Reply.{Reply}
 use Rattle.definitions.specs.declared.Reply.the-variants.{Done, Refused}
 use Rattle.rules.proofs.Promises.{done-bytes}
 use Rattle.printing.specs.Text.{wordsText, lineText, linesText, recordAt, answerText, refusalText}
-use Rattle.answers.specs.Answer.{numberIn, valuesIn, noBatch, batchIn, planRoom, resultRoom, workRoom, ranAnswer, batchAnswer, inputAnswer, fileAnswer, answerTo, mostInput}
+use Rattle.answers.specs.Answer.{numberIn, wordsIn, noBatch, batchIn, resultRoom, workRoom, ranAnswer, batchAnswer, inputAnswer, fileAnswer, answerTo, mostInput}
 
 -- ---- the values
 
-pub values-none : (s : List ℕ) → [] ≡ valuesIn s 0
-unfolding valuesIn
+pub values-none : (s : List ℕ) → [] ≡ wordsIn s 0
+unfolding wordsIn
 values-none s = refl
 
-pub values-more : (s : List ℕ) (buf : List Val) (i : ℕ) {x : Val} → i < length buf → take i buf ≡ valuesIn s i → x ≡ constantIn s (12 + 4 * i)
-    → take (i + 1) (set buf i x) ≡ valuesIn s (i + 1)
-unfolding valuesIn
+pub values-more : (s : List ℕ) (buf : List Word) (i : ℕ) {x : Word} → i < length buf → take i buf ≡ wordsIn s i → x ≡ constantIn s (12 + 4 * i)
+    → take (i + 1) (set buf i x) ≡ wordsIn s (i + 1)
+unfolding wordsIn
 values-more s buf i {x} h e k = rw add-one (take-suc-set buf i x h ∙ rw (e, k))
 
 -- ---- a run's reply
@@ -108,7 +107,7 @@ module _ (plan s : List ℕ) where
   whole-text e = rw e
 
   -- the same batch, from its parts
-  pub batch-text : {values : List Val} {rows budget quota : ℕ} → rows ≡ numberIn s 0 → values ≡ valuesIn s ((length s - 12) / 4) → budget ≡ numberIn s 4
+  pub batch-text : {values : List Word} {rows budget quota : ℕ} → rows ≡ numberIn s 0 → values ≡ wordsIn s ((length s - 12) / 4) → budget ≡ numberIn s 4
       → quota ≡ numberIn s 8 → batchAnswer (record { plan = plan; rows = rows; values = values; budget = budget; quota = quota }) ≡ batchAnswer (batchIn plan s)
   batch-text r v b q = rw (r, v, b, q)
 
@@ -127,8 +126,8 @@ module _ (file : List ℕ) {old new : List ℕ} {r : Reply} (w : Wrote (toCompil
   pub plan-fits : (n : ℕ) → r ≡ Done n → n ≤ length old
   plan-fits n e = fits-in (toCompile file) (length old) n (sym (w .reply) ∙ e)
 
-  module _ (fits : length old ≡ planRoom) where
-    file-reply : r ≡ replyIn planRoom (toCompile file)
+  module _ (fits : length old ≡ longestPlan) where
+    file-reply : r ≡ replyIn longestPlan (toCompile file)
     file-reply = w .reply ∙ rw fits
 
     pub file-done : (n : ℕ) → r ≡ Done n → (s : List ℕ) → inputAnswer (take n new) s ≡ answerTo file s

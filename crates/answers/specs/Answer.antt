@@ -4,10 +4,10 @@ use mathlib.Core.Bool.{Bool, cond, not, _||_}
 use mathlib.Core.List.{List, [], _∷_, _++_}
 use lib.Dec.{eqb, ltb}
 use lib.ListN.{length, getD}
-use Rattle.definitions.specs.Values.{Val}
+use Rattle.definitions.specs.Values.{Word}
 use Rattle.definitions.specs.Grammar.{wordOf, constantIn, mostVariables}
-use Rattle.definitions.specs.Plan.{planned}
-use Rattle.definitions.specs.Batch.{Word, recordSize, lineSize}
+use Rattle.definitions.specs.Plan.{planned, longestPlan}
+use Rattle.definitions.specs.Batch.{recordSize, lineSize}
 use Rattle.definitions.specs.Finder.{mostRows, mostQuota, mostColumns}
 use Rattle.definitions.specs.Calls.{Batch, toCompile, replyIn, bytesIn, runReply, recordsIn}
 use Rattle.definitions.specs.declared.Reply.{Reply}
@@ -20,10 +20,10 @@ use Rattle.printing.specs.Text.{answerText, refusalText}
 abbrev pub numberIn : List ℕ → ℕ → ℕ
 numberIn s at = wordOf (getD s at 0) (getD s (at + 1) 0) (getD s (at + 2) 0) (getD s (at + 3) 0)
 
--- the first n values, which start after the three numbers
-unfoldable pub valuesIn : List ℕ → ℕ → List Val
-valuesIn s zero = []
-valuesIn s (suc n) = valuesIn s n ++ (constantIn s (12 + 4 * n) ∷ [])
+-- the first n values' words, which start after the three numbers
+unfoldable pub wordsIn : List ℕ → ℕ → List Word
+wordsIn s zero = []
+wordsIn s (suc n) = wordsIn s n ++ (constantIn s (12 + 4 * n) ∷ [])
 
 -- the most bytes of an input: the three numbers, and all values of the most rows
 abbrev pub mostInput : ℕ
@@ -35,14 +35,11 @@ noBatch size = ltb size 12 || (ltb mostInput size || not (eqb (size % 4) 0))
 
 abbrev pub batchIn : List ℕ → List ℕ → Batch
 batchIn plan s =
-    record { plan = plan; rows = numberIn s 0; values = valuesIn s ((length s - 12) / 4); budget = numberIn s 4; quota = numberIn s 8 }
+    record { plan = plan; rows = numberIn s 0; values = wordsIn s ((length s - 12) / 4); budget = numberIn s 4; quota = numberIn s 8 }
 
 -- ---- the text
 
--- room for every plan, and for the records and the lines of every batch
-abbrev pub planRoom : ℕ
-planRoom = 4578
-
+-- room for the records and the lines of every batch
 abbrev pub resultRoom : ℕ
 resultRoom = mostRows * recordSize mostQuota
 
@@ -67,4 +64,4 @@ fileAnswer (Done n) plan s = inputAnswer plan s
 fileAnswer (Refused f) plan s = refusalText (f .number) (f .place)
 
 unfoldable pub answerTo : List ℕ → List ℕ → List ℕ
-answerTo file s = fileAnswer (replyIn planRoom (toCompile file)) (bytesIn (toCompile file)) s
+answerTo file s = fileAnswer (replyIn longestPlan (toCompile file)) (bytesIn (toCompile file)) s

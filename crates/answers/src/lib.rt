@@ -13,7 +13,7 @@ ghost use Prim.Native.Nat.{_+_, _*_, _≤_};
 ghost use lib.ListN.{length, take};
 ghost use Rattle.io.specs.Counts.{Counts};
 ghost use Rattle.printing.specs.Text.{textRoom};
-ghost use Rattle.answers.specs.Answer.{numberIn, valuesIn, noBatch, mostInput, batchIn, inputAnswer, batchAnswer, answerTo};
+ghost use Rattle.answers.specs.Answer.{numberIn, wordsIn, noBatch, mostInput, batchIn, inputAnswer, batchAnswer, answerTo};
 
 // The most values of a batch, and the most bytes of an input that holds one.
 const MOST_VALUES: usize = ROWS * VARIABLES;
@@ -31,7 +31,7 @@ fn number(input: &[u8], at: usize) -> usize
 // The first n values of the input, to the start of a buffer.
 fn put_values(input: &[u8], values: &mut [i32], n: usize)
     requires { ⌜ (12 + 4 * n ≤ length (now input)) × (n ≤ length (now values)) ⌝ }
-    ensures { λ _. ⌜ take n (now (values .exit)) ≡ valuesIn (now (input .entry)) n ⌝ }
+    ensures { λ _. ⌜ take n (now (values .exit)) ≡ wordsIn (now (input .entry)) n ⌝ }
 {
     let mut i = 0;
     while i < n {

@@ -7,10 +7,11 @@ use native.Mathlib.Omega.{arith}
 use mathlib.Core.List.{List}
 use lib.Dec.{eqb, ltb}
 use lib.ListN.{length, take}
+use Rattle.definitions.specs.Values.{Word}
 use Rattle.definitions.specs.Rule.{Rule}
 use Rattle.definitions.specs.Grammar.{Got, got, ruleOf}
 use Rattle.definitions.specs.Plan.{planned}
-use Rattle.definitions.specs.Batch.{Word, recordSize, lineSize}
+use Rattle.definitions.specs.Batch.{recordSize, lineSize}
 use Rattle.definitions.specs.Finder.{mostRows, mostQuota}
 use Rattle.definitions.specs.Calls.{Batch, mostBudget, columns, refusal, toWrite, toCompile, Wrote, ranReply, runReply, recordsIn, tableIn, Ran}
 use Rattle.definitions.specs.declared.Reply.{Reply}

@@ -3,19 +3,19 @@
 use Prim.Native.Nat.{ℕ, _+_, _*_, _≤_}
 use native.Mathlib.Omega.{arith}
 use mathlib.Core.Path.{_≡_, refl, sym, ap, _∙_}
-use mathlib.Core.Bool.{true}
+use mathlib.Core.Bool.{true, false}
 use mathlib.Core.List.{List, append-assoc}
 use lib.IntN.{pos}
 use lib.ListN.{length, drop, getD, length-append, length-drop}
 use denote.Ref.{RefT}
-use borrow.Author.Tests.{eq-eqb, ne-eqb, lt-ltb, le-leb}
-use Rattle.definitions.specs.Values.{Val}
+use borrow.Author.Tests.{lt-ltb, le-leb}
+use Rattle.definitions.specs.Values.{Word, Val}
 use Rattle.definitions.specs.Rule.{Rule}
 use Rattle.definitions.specs.Grammar.{got}
 use Rattle.definitions.specs.Columns.{flowOf, LC}
 use Rattle.definitions.specs.Plan.{planned}
-use Rattle.definitions.specs.Direct.{State, unfinished, start, after}
-use Rattle.definitions.specs.Batch.{Word, goesOn, recordSize, lineSize, recordOf, lineOf, liveOf, statesOf}
+use Rattle.definitions.specs.Direct.{State, goesOn, start, after}
+use Rattle.definitions.specs.Batch.{recordSize, lineSize, recordOf, lineOf, liveOf, statesOf}
 use Rattle.definitions.specs.Finder.{Part, isNumber, foundIn, mostRows, mostQuota, mostColumns}
 use Rattle.definitions.specs.Calls.{Batch, columns, tableIn}
 use Rattle.definitions.specs.declared.Reply.the-variants.{Done}
@@ -54,7 +54,7 @@ module _ (plan : List ℕ) (r : Rule) (n : ℕ) (accepted : planned plan ≡ got
     record-words : recordAt q k (a .result .now) ≡ recordOf q its
     record-words = direct plan r n accepted args q N k (a .result .now) (a .called)
 
-    status-word : getD (a .result .now) (k * recordSize q) (pos 0) ≡ pos (its .status)
+    status-word : getD (a .result .now) (k * recordSize q) (pos 0) ≡ pos (its .finish .status)
     status-word =
         let e : k * recordSize q + 0 ≡ k * recordSize q = omega arith in
         rw (← e) (part-get (a .result .now) (recordOf q its) (k * recordSize q) (recordSize q) 0 (pos 0) record-words (omega arith))
@@ -69,10 +69,10 @@ module _ (plan : List ℕ) (r : Rule) (n : ℕ) (accepted : planned plan ≡ got
         rw (lt-ltb k (batch .rows) (c .within), le-leb (batch .rows) mostRows (l .0), le-leb q mostQuota (l .1 .0), le-leb (columns r) mostColumns narrow, le-leb (batch .rows * recordSize q) (length (a .result .now)) (omega arith))
 
     -- a row that has ended: its record, where it stands in the result buffer
-    pub ended-found : (its .status ≡ unfinished → ⊥) → foundFor a ≡ (addressOf (a .result) (k * recordSize q), recordOf q its)
+    pub ended-found : goesOn (its .finish) ≡ false → foundFor a ≡ (addressOf (a .result) (k * recordSize q), recordOf q its)
     unfolding isNumber
     ended-found z =
-        sym (found-record (a .result) (a .work) (batch .rows) q (columns r) k inside (ap (λ (x : Word). isNumber x 0) status-word ∙ ne-eqb (its .status) 0 z))
+        sym (found-record (a .result) (a .work) (batch .rows) q (columns r) k inside (ap (λ (x : Word). isNumber x 0) status-word ∙ z))
         ∙ ap (λ (x : List Word). (addressOf (a .result) (k * recordSize q), x)) record-words
 
     -- how many rows before it are unfinished
@@ -80,15 +80,14 @@ module _ (plan : List ℕ) (r : Rule) (n : ℕ) (accepted : planned plan ≡ got
     linesBefore = liveOf (statesOf r (batch .values) k N q)
 
     -- an unfinished row: its line, where it stands in the working buffer
-    pub unfinished-found : its .status ≡ unfinished → foundFor a ≡ (addressOf (a .work) (linesBefore * lineSize (columns r)), lineOf (r .variables) (LC (flowOf r)) k its)
+    pub unfinished-found : goesOn (its .finish) ≡ true → foundFor a ≡ (addressOf (a .work) (linesBefore * lineSize (columns r)), lineOf (r .variables) (LC (flowOf r)) k its)
     unfolding isNumber tableIn
     unfinished-found z =
         let c = a .called in
-        let g : goesOn its ≡ true = eq-eqb (its .status) 0 z in
         let w = sym (rw (ap planned (c .plan') ∙ accepted) at (c .ran .working)) ∙ a .table in
-        sym (found-line (a .result) (a .work) (batch .rows) q (columns r) k inside (ap (λ (x : Word). isNumber x 0) status-word ∙ g))
-        ∙ its-line r (batch .values) args (batch .rows) (batch .budget) (batch .quota) N q k (a .work) _ (sym (append-assoc (linesIn r 0 (statesOf r (batch .values) (batch .rows) (batch .budget) (batch .quota))) _ _) ∙ w) (c .budget) (c .quota) (c .args') (c .within) g
+        sym (found-line (a .result) (a .work) (batch .rows) q (columns r) k inside (ap (λ (x : Word). isNumber x 0) status-word ∙ z))
+        ∙ its-line r (batch .values) args (batch .rows) (batch .budget) (batch .quota) N q k (a .work) _ (sym (append-assoc (linesIn r 0 (statesOf r (batch .values) (batch .rows) (batch .budget) (batch .quota))) _ _) ∙ w) (c .budget) (c .quota) (c .args') (c .within) z
 
   -- a line does not depend on the row's neighbours, and of its words only the first depends on the row's place
-  pub line-alone : (k k′ : ℕ) (a : Sought plan r args N q k) (a′ : Sought plan r args N q k′) → its .status ≡ unfinished → drop 1 (foundFor a .1) ≡ drop 1 (foundFor a′ .1)
+  pub line-alone : (k k′ : ℕ) (a : Sought plan r args N q k) (a′ : Sought plan r args N q k′) → goesOn (its .finish) ≡ true → drop 1 (foundFor a .1) ≡ drop 1 (foundFor a′ .1)
   line-alone k k′ a a′ z = rw (unfinished-found k a z, unfinished-found k′ a′ z)

@@ -7,16 +7,17 @@ use native.Mathlib.Omega.{arith}
 use mathlib.Core.List.{List, [], _∷_, _++_, map, append-assoc, map-append}
 use lib.IntN.{pos, natAbs}
 use lib.ListN.{length, take, drop, getD, replicate, length-take}
-use lib.Seq.{take-append-seam}
+use lib.Seq.{take-at}
 use lib.Dec.{ltb}
 use borrow.Author.Tests.{ltb-true, ltb-false, ne-eqb}
-use Rattle.definitions.specs.Values.{Val}
+use Rattle.definitions.specs.Values.{Word, Val, valuesIn, wordsOf}
 use Rattle.definitions.specs.Rule.{Rule}
 use Rattle.definitions.specs.Grammar.{got}
 use Rattle.definitions.specs.Plan.{planned}
-use Rattle.definitions.specs.Direct.{State, start, after}
-use Rattle.definitions.specs.Batch.{Word, goesOn, recordSize, recordOf, recordsOf, startAt, startsOf}
+use Rattle.definitions.specs.Direct.{State, start, after, goesOn}
+use Rattle.definitions.specs.Batch.{recordSize, recordOf, recordsOf, startAt, startsOf}
 use Rattle.definitions.specs.Calls.{Batch, Ran, recordsIn}
+use Rattle.definitions.proofs.Values.{values-length, words-length, values-again}
 use Rattle.definitions.specs.declared.Refusal.{Refusal}
 use Rattle.definitions.specs.declared.Reply.{Reply}
 use Rattle.definitions.specs.declared.Reply.the-variants.{Done, Refused}
@@ -49,8 +50,8 @@ recordAt q k out = take (recordSize q) (drop (k * recordSize q) out)
 abbrev pub statusOf : List Word → Word
 statusOf words = getD words 0 (pos 0)
 
-abbrev pub labelsOf : List Word → List Word
-labelsOf words = take (natAbs (getD words 2 (pos 0))) (drop 3 words)
+abbrev pub labelsOf : List Word → List Val
+labelsOf words = valuesIn (take (natAbs (getD words 2 (pos 0))) (drop 3 words))
 
 -- some batch holds a row with these arguments at place k, and its call, under this budget and quota, leaves these results
 pub record Called (plan : List ℕ) (r : Rule) (args : List Val) (N q k : ℕ) (results : List Word) : Type 0 where
@@ -64,16 +65,16 @@ pub record Called (plan : List ℕ) (r : Rule) (args : List Val) (N q k : ℕ) (
   pub budget : batch .budget ≡ N
   pub quota : batch .quota ≡ q
   pub within : k < batch .rows
-  pub args' : take (r .arguments) (drop (k * r .arguments) (batch .values)) ≡ args
+  pub args' : valuesIn (take (r .arguments) (drop (k * r .arguments) (batch .values))) ≡ args
 
 -- ---- a row among the rows
 
 -- the rows before row k, row k, and the rows after it
-pub record Split (r : Rule) (values : List Val) (rows k : ℕ) : Type 0 where
+pub record Split (r : Rule) (values : List Word) (rows k : ℕ) : Type 0 where
   pub rest : List State
   pub is : startsOf r values rows ≡ startsOf r values k ++ startAt r values k ∷ rest
 
-pub starts-split : (r : Rule) (values : List Val) (rows k : ℕ) → k < rows → Split r values rows k
+pub starts-split : (r : Rule) (values : List Word) (rows k : ℕ) → k < rows → Split r values rows k
 unfolding startsOf
 starts-split r values zero k h = absurd (omega arith)
 starts-split r values (suc n) k h = go (ltb k n) refl (starts-split r values n k)
@@ -88,11 +89,11 @@ starts-split r values (suc n) k h = go (ltb k n) refl (starts-split r values n k
         record { rest = []; is = ap (λ (m : ℕ). startsOf r values m ++ startAt r values m ∷ []) z }
 
 module _ (r : Rule) (ok : Proper r) where
-  args-few : (values : List Val) (k : ℕ) → length (take (r .arguments) (drop (k * r .arguments) values)) ≤ r .variables
-  args-few values k = omega (arith, ok .given, length-take (r .arguments) (drop (k * r .arguments) values))
+  args-few : (values : List Word) (k : ℕ) → length (valuesIn (take (r .arguments) (drop (k * r .arguments) values))) ≤ r .variables
+  args-few values k = omega (arith, ok .given, values-length (take (r .arguments) (drop (k * r .arguments) values)), length-take (r .arguments) (drop (k * r .arguments) values))
 
   -- the record of row k is that of its own direct run, whatever stands beside it
-  alone : (values : List Val) (rows N q k : ℕ) (tail : List Word) → k < rows
+  alone : (values : List Word) (rows N q k : ℕ) (tail : List Word) → k < rows
       → recordAt q k (recordsOf q (map (after r q N) (startsOf r values rows)) ++ tail) ≡ recordOf q (after r q N (startAt r values k))
   unfolding recordsOf
   alone values rows N q k tail h =
@@ -103,10 +104,10 @@ module _ (r : Rule) (ok : Proper r) where
       let e : recordsOf q (map g (startsOf r values rows)) ++ tail ≡ recordsOf q (map g before) ++ (recordOf q (g s) ++ (recordsOf q (map g (c .rest)) ++ tail)) =
       ap (λ (l : List State). recordsOf q (map g l) ++ tail) (c .is) ∙ rw (map-append, records-append) (simp append-assoc) in
       rw e (part-mid (recordsOf q (map g before)) (recordOf q (g s)) (recordsOf q (map g (c .rest)) ++ tail) (k * recordSize q) (recordSize q)
-      (records-size r ok values (record { rows = k; budget = N }) q) (record-length r q N (g s) (run-sound r q ok (take (r .arguments) (drop (k * r .arguments) values)) (args-few values k) N)))
+      (records-size r ok values (record { rows = k; budget = N }) q) (record-length r q N (g s) (run-sound r q ok (valuesIn (take (r .arguments) (drop (k * r .arguments) values))) (args-few values k) N)))
 
-  its-own : (values args : List Val) (rows B Q N q k : ℕ) (results tail : List Word) → results ≡ recordsOf Q (map (after r Q B) (startsOf r values rows)) ++ tail
-      → B ≡ N → Q ≡ q → take (r .arguments) (drop (k * r .arguments) values) ≡ args → k < rows → recordAt q k results ≡ recordOf q (after r q N (start r args))
+  its-own : (values : List Word) (args : List Val) (rows B Q N q k : ℕ) (results tail : List Word) → results ≡ recordsOf Q (map (after r Q B) (startsOf r values rows)) ++ tail
+      → B ≡ N → Q ≡ q → valuesIn (take (r .arguments) (drop (k * r .arguments) values)) ≡ args → k < rows → recordAt q k results ≡ recordOf q (after r q N (start r args))
   its-own values args rows B Q N q k results tail e eN eq ea h = rw (e, ← eN, ← eq, ← ea) (alone values rows B Q k tail h)
 
 -- ---- the promises
@@ -124,7 +125,9 @@ module _ (plan : List ℕ) (r : Rule) (n : ℕ) (accepted : planned plan ≡ got
       its-own r ok (b .values) args (b .rows) (b .budget) (b .quota) N q k results _ e (c .budget) (c .quota) (c .args') (c .within)
 
   labels-are : (words : List Word) (s : State) → words ≡ recordOf q s → labelsOf words ≡ s .labels
-  labels-are words s e = rw e (take-append-seam (s .labels) (replicate (q - length (s .labels)) (pos 0)))
+  labels-are words s e =
+      let zeros : List Word = replicate (q - length (s .labels)) (pos 0) in
+      rw e (ap valuesIn (take-at (wordsOf (s .labels)) zeros (length (s .labels)) (words-length (s .labels))) ∙ values-again (s .labels))
 
   -- Two calls, one after N and one after M rounds, in any two batches and at any two places.
   module _ (N M k k' : ℕ) (more : N ≤ M) (results results' : List Word) (c : Called plan r args N q k results) (c' : Called plan r args M q k' results') where
@@ -139,7 +142,7 @@ module _ (plan : List ℕ) (r : Rule) (n : ℕ) (accepted : planned plan ≡ got
     -- once the row has ended, the two records are the same in every word
     pub same-record : (statusOf (recordAt q k results) ≡ pos 0 → ⊥) → recordAt q k results ≡ recordAt q k' results'
     same-record z =
-        let g : goesOn (after r q N s) ≡ false = ne-eqb (after r q N s .status) 0 (λ w. z (ap statusOf (direct N k results c) ∙ ap pos w)) in
+        let g : goesOn (after r q N s .finish) ≡ false = ne-eqb (after r q N s .finish .status) 0 (λ w. z (ap statusOf (direct N k results c) ∙ ap pos w)) in
         let e : after r q M s ≡ after r q N s = later ∙ after-done r q (M - N) (after r q N s) g in
         direct N k results c ∙ ap (recordOf q) (sym e) ∙ sym (direct M k' results' c')
 

@@ -7,10 +7,11 @@ use mathlib.Core.List.{List}
 use lib.ListN.{length}
 use lib.Dec.{eqb, ltb}
 use borrow.Author.Tests.{ltb-false, eqb-true, not-false}
+use Rattle.definitions.specs.Values.{Word}
 use Rattle.definitions.specs.Rule.{Rule}
 use Rattle.definitions.specs.Grammar.{got, refused}
 use Rattle.definitions.specs.Plan.{planned}
-use Rattle.definitions.specs.Batch.{Word, recordSize, mostOf}
+use Rattle.definitions.specs.Batch.{recordSize, mostOf}
 use Rattle.definitions.specs.Finder.{mostRows, mostQuota}
 use Rattle.definitions.specs.Calls.{Batch, Ran, ranReply, runReply, recordsIn, tableIn, mostBudget, refusal, rowsOf}
 use Rattle.definitions.specs.declared.Refusal.{Refusal}

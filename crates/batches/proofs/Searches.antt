@@ -10,10 +10,10 @@ use lib.ListN.{length, take, drop, length-append, length-map}
 use lib.Seq.{getD-at}
 use denote.Ref.{RefT}
 use borrow.Author.Tests.{eq-eqb, ne-eqb}
-use Rattle.definitions.specs.Values.{Val}
+use Rattle.definitions.specs.Values.{Word, Val, valuesIn}
 use Rattle.definitions.specs.Rule.{Rule}
-use Rattle.definitions.specs.Direct.{State, start, after}
-use Rattle.definitions.specs.Batch.{Word, goesOn, linesFrom, liveOf, startAt, statesOf}
+use Rattle.definitions.specs.Direct.{State, start, after, goesOn}
+use Rattle.definitions.specs.Batch.{linesFrom, liveOf, startAt, statesOf}
 use Rattle.definitions.specs.Finder.{isNumber, isLine, lineIndex, linePart}
 use Rattle.layouts.specs.Layout.{width, lineIn, linesIn}
 use Rattle.finder.proofs.Finds.{if-whole, line-found}
@@ -52,9 +52,9 @@ module _ (r : Rule) (k : ℕ) where
     search-ends : (ss : List State) (j : ℕ) → j + length ss ≡ k → Ends j ss
     unfolding linesFrom liveOf
     search-ends [] j c i n before e h l = search-on work i n l ∙ rw (e, is-line before k s tail i h, eq-eqb k k refl) (omega arith)
-    search-ends (x ∷ ss) j c i n before e h l = go (goesOn x) refl (search-ends ss (j + 1) (omega arith))
+    search-ends (x ∷ ss) j c i n before e h l = go (goesOn (x .finish)) refl (search-ends ss (j + 1) (omega arith))
       where
-        go : (b : Bool) → goesOn x ≡ b → Ends (j + 1) ss → lineIndex work w k i n ≡ i + (cond (goesOn x) 1 0 + liveOf ss)
+        go : (b : Bool) → goesOn (x .finish) ≡ b → Ends (j + 1) ss → lineIndex work w k i n ≡ i + (cond (goesOn (x .finish)) 1 0 + liveOf ss)
         go true g ih =
             let m : List Word = lineIn r j x in
             let rest : List Word = linesIn r (j + 1) ss ++ (lineIn r k s ++ tail) in
@@ -69,7 +69,7 @@ abbrev pub addressOf : RefT (List Word) → ℕ → ℕ × ℕ
 addressOf s a = (s .ptr .0, a * 4 + s .ptr .1)
 
 -- ---- the line of a row that is unfinished
-module _ (r : Rule) (values : List Val) (rows N q k : ℕ) (one : k < rows) where
+module _ (r : Rule) (values : List Word) (rows N q k : ℕ) (one : k < rows) where
   abbrev s : State
   s = after r q N (startAt r values k)
 
@@ -80,7 +80,7 @@ module _ (r : Rule) (values : List Val) (rows N q k : ℕ) (one : k < rows) wher
   many : length earlier ≡ k
   many = rw length-map (starts-length r values k)
 
-  module _ (work : RefT (List Word)) (tail : List Word) (e : linesIn r 0 (statesOf r values rows N q) ++ tail ≡ work .now) (g : goesOn s ≡ true) where
+  module _ (work : RefT (List Word)) (tail : List Word) (e : linesIn r 0 (statesOf r values rows N q) ++ tail ≡ work .now) (g : goesOn (s .finish) ≡ true) where
     abbrev rest : List Word
     rest = linesIn r (k + 1) (map (after r q N) (starts-split r values rows k one .rest)) ++ tail
 
@@ -100,7 +100,7 @@ module _ (r : Rule) (values : List Val) (rows N q k : ℕ) (one : k < rows) wher
     line-part = sym (line-found work rows (width r) k (liveOf earlier) (sym first-line) (omega (arith, many, live-length earlier))) ∙ ap (λ (x : List Word). (addressOf work (liveOf earlier * width r), x)) line-words
 
 -- the same of a row with these arguments, budget and quota
-pub its-line : (r : Rule) (values args : List Val) (rows B Q N q k : ℕ) (work : RefT (List Word)) (tail : List Word) → linesIn r 0 (statesOf r values rows B Q) ++ tail ≡ work .now
-    → B ≡ N → Q ≡ q → take (r .arguments) (drop (k * r .arguments) values) ≡ args → k < rows → goesOn (after r q N (start r args)) ≡ true
+pub its-line : (r : Rule) (values : List Word) (args : List Val) (rows B Q N q k : ℕ) (work : RefT (List Word)) (tail : List Word) → linesIn r 0 (statesOf r values rows B Q) ++ tail ≡ work .now
+    → B ≡ N → Q ≡ q → valuesIn (take (r .arguments) (drop (k * r .arguments) values)) ≡ args → k < rows → goesOn (after r q N (start r args) .finish) ≡ true
     → linePart work rows (width r) k ≡ (addressOf work (liveOf (statesOf r values k N q) * width r), lineIn r k (after r q N (start r args)))
 its-line r values args rows B Q N q k work tail e eN eq ea h = rw (← eN, ← eq, ← ea) (line-part r values rows B Q k h work tail e)

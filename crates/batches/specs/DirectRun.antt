@@ -3,11 +3,12 @@ use Prim.Native.Nat.{ℕ, _*_, _<_}
 use mathlib.Core.Path.{_≡_}
 use mathlib.Core.List.{List}
 use lib.ListN.{length, take, drop}
+use Rattle.definitions.specs.Values.{Word}
 use Rattle.definitions.specs.Rule.{Rule}
 use Rattle.definitions.specs.Grammar.{Got}
 use Rattle.definitions.specs.Columns.{flowOf, LC}
 use Rattle.definitions.specs.Direct.{after}
-use Rattle.definitions.specs.Batch.{Word, startAt, recordSize, recordOf, recordsOf, tableOf}
+use Rattle.definitions.specs.Batch.{startAt, recordSize, recordOf, recordsOf, tableOf}
 use Rattle.definitions.specs.Calls.{Batch, refusal, left, rowsOf, ranReply, Ran}
 use Rattle.definitions.specs.declared.Reply.{Reply}
 use Rattle.definitions.specs.declared.Reply.the-variants.{Done}

@@ -5,7 +5,10 @@ ghost use Rattle.definitions.specs.Direct.{after};
 ghost use Rattle.columns.specs.Proper.{Proper};
 ghost use Rattle.plans.specs.Accepted.{ruleIn};
 ghost use Rattle.carries.specs.Carry.{Running, InHand, ProgressTo};
+use definitions::Finish;
 use definitions::VARIABLES;
+use definitions::goes_on;
+use definitions::unfinished;
 use rounds::Rule;
 
 // Where a row stands: its next block, and how many labels it has.
@@ -14,9 +17,9 @@ pub struct Spot {
     pub count: usize,
 }
 
-// How far a row was carried on: its status, how many rounds it began on the way, its next block and how many labels it has.
+// How far a row was carried on: how it ended, how many rounds it began on the way, its next block and how many labels it has.
 pub struct Progress {
-    pub status: u8,
+    pub finish: Finish,
     pub rounds: usize,
     pub block: u8,
     pub count: usize,
@@ -38,19 +41,21 @@ pub fn carry(
     ensures { λ r. ⌜ ((k : InHand (ruleIn (now (plan .entry))) quota (spot .block) (take (spot .count) (now (labels .entry))) (now (vars .entry)))
         → ProgressTo (ruleIn (now (plan .entry))) (k .state) (after (ruleIn (now (plan .entry))) quota budget (k .state)) r (now (labels .exit)) (now (vars .exit))) ⌝ }
 {
+    let open = unfinished();
     let mut c = Progress {
-        status: 0,
+        finish: open,
         rounds: 0,
         block: spot.block,
         count: spot.count,
     };
     while c.rounds < budget {
-        if c.status != 0 {
+        if !goes_on(c.finish) {
             return c;
         }
         let e = rounds::round(plan, rule, quota, c.block, vars, labels, c.count);
+        let finish = e.finish;
         c = Progress {
-            status: e.status,
+            finish,
             rounds: c.rounds + 1,
             block: e.block,
             count: e.count,

@@ -6,11 +6,12 @@ use mathlib.Core.Logic.{_⊎_, inl, inr, ⊎-elim}
 use mathlib.Core.List.{List, [], _∷_, _++_}
 use native.Mathlib.Omega.{arith}
 use lib.Dec.{eqb, ltb}
-use lib.IntN.{pos}
 use lib.ListN.{length, getD, set, length-set}
 use lib.Seq.{getD-set-same, getD-set-other}
 use borrow.Author.Tests.{eqb-true, eqb-false, eq-eqb}
-use Rattle.definitions.specs.Values.{Val, Out, value, fault}
+use Rattle.definitions.specs.Values.{Val, unset, Out, value, fault}
+use Rattle.definitions.specs.declared.Flaw.{Flaw}
+use Rattle.definitions.specs.declared.Finish.{Finish}
 use Rattle.definitions.specs.Rule.{Expr, Stmt, Set, Emit, End}
 use Rattle.definitions.specs.Meaning.{eval}
 use Rattle.definitions.specs.Direct.{Way, on, ended, onward, with, step, steps, faulted, quotaFull}
@@ -22,7 +23,7 @@ use Rattle.columns.proofs.Reading.{Agree, eval-alike}
 -- two ways through a block: both ended alike, or both go on with the same labels and such environments
 pub data Ways (v : ℕ) (A : ℕ → Bool) (a b : Way) : Type 0 where
   both-on : (x y ls : List Val) → a ≡ on x ls → b ≡ on y ls → Alike v A x y → Ways v A a b
-  both-ended : (st : ℕ) (ls : List Val) → a ≡ ended st ls → b ≡ ended st ls → Ways v A a b
+  both-ended : (how : Finish) (ls : List Val) → a ≡ ended how ls → b ≡ ended how ls → Ways v A a b
 
 module _ (v : ℕ) where
   pub alike-less : (A B : ℕ → Bool) (x y : List Val) → ((k : ℕ) → k < v → B k ≡ true → A k ≡ true) → Alike v A x y → Alike v B x y
@@ -38,18 +39,18 @@ module _ (v : ℕ) where
     same = λ k h p. go k h p (eqb i k) refl;
   }
     where
-      go : (k : ℕ) → k < v → (A k || eqb i k) ≡ true → (t : Bool) → eqb i k ≡ t → getD (set x i z) k (pos 0) ≡ getD (set y i z) k (pos 0)
-      go k h p true e = rw (← eqb-true i k e) (getD-set-same x i z (pos 0) (omega (arith, w .left)) ∙ sym (getD-set-same y i z (pos 0) (omega (arith, w .right))))
+      go : (k : ℕ) → k < v → (A k || eqb i k) ≡ true → (t : Bool) → eqb i k ≡ t → getD (set x i z) k unset ≡ getD (set y i z) k unset
+      go k h p true e = rw (← eqb-true i k e) (getD-set-same x i z unset (omega (arith, w .left)) ∙ sym (getD-set-same y i z unset (omega (arith, w .right))))
       go k h p false e =
           let n : k ≡ i → ⊥ = λ q. eqb-false i k e (sym q) in
-          getD-set-other x i k z (pos 0) n ∙ w .same k h (⊎-elim (λ a. a) (λ a. absurd (n (sym (eqb-true i k a)))) (or-case (A k) (eqb i k) p)) ∙ sym (getD-set-other y i k z (pos 0) n)
+          getD-set-other x i k z unset n ∙ w .same k h (⊎-elim (λ a. a) (λ a. absurd (n (sym (eqb-true i k a)))) (or-case (A k) (eqb i k) p)) ∙ sym (getD-set-other y i k z unset n)
 
   ways-onward : (A B : ℕ → Bool) (a b : Way) (f : List Val → List Val → Way) → ((x y ls : List Val) → Alike v A x y → Ways v B (f x ls) (f y ls)) → Ways v A a b → Ways v B (onward a f) (onward b f)
   ways-onward A B a b f h (both-on x y ls p q w) = rw (p, q) (h x y ls w)
-  ways-onward A B a b f h (both-ended st ls p q) = both-ended st ls (rw p) (rw q)
+  ways-onward A B a b f h (both-ended how ls p q) = both-ended how ls (rw p) (rw q)
 
   -- what is worked out alike is used alike
-  ways-with : (A : ℕ → Bool) (o : Out Val) (ls : List Val) (f g : Val → Way) → ((z : Val) → Ways v A (f z) (g z)) → Ways v A (with o ls f) (with o ls g)
+  ways-with : (A : ℕ → Bool) (o : Out Flaw Val) (ls : List Val) (f g : Val → Way) → ((z : Val) → Ways v A (f z) (g z)) → Ways v A (with o ls f) (with o ls g)
   ways-with A (value z) ls f g h = h z
   ways-with A (fault k) ls f g h = both-ended (faulted k) ls refl refl
 

@@ -5,13 +5,14 @@ use mathlib.Core.Bool.{Bool, true, false, cond}
 use mathlib.Core.List.{List}
 use borrow.Author.Tests.{eq-eqb}
 use Rattle.definitions.specs.Values.{Val, Out, value, fault, also}
+use Rattle.definitions.specs.declared.Flaw.{Flaw}
 use Rattle.definitions.specs.Rule.{End, Goto, Jump, Stop, If}
 use Rattle.definitions.specs.Meaning.{holds}
 use Rattle.definitions.specs.Direct.{Exit, toBlock, toRound, exit}
 use Rattle.definitions.specs.Columns.{goesTo, jumpsTo}
 use Rattle.definitions.proofs.Tests.{or-left, or-right}
 
-pub record Named (e : End) (o : Out Exit) : Type 0 where
+pub record Named (e : End) (o : Out Flaw Exit) : Type 0 where
   pub goes : (t : ℕ) → o ≡ value (toBlock t) → goesTo e t ≡ true
   pub jumps : (t : ℕ) → o ≡ value (toRound t) → jumpsTo e t ≡ true
 
@@ -22,7 +23,7 @@ exit-named (Jump u) env = record { goes = λ t p. cc; jumps = λ t p. eq-eqb u t
 exit-named Stop env = record { goes = λ t p. cc; jumps = λ t p. cc }
 exit-named (If c x y) env = go (holds c env) (exit-named x env) (exit-named y env)
   where
-    go : (o : Out Bool) → Named x (exit x env) → Named y (exit y env) → Named (If c x y) (also o (λ h. cond h (exit x env) (exit y env)))
+    go : (o : Out Flaw Bool) → Named x (exit x env) → Named y (exit y env) → Named (If c x y) (also o (λ h. cond h (exit x env) (exit y env)))
     go (value true) m n = record {
       goes = λ t p. or-left (goesTo x t) _ (m .goes t p);
       jumps = λ t p. or-left (jumpsTo x t) _ (m .jumps t p);

@@ -8,34 +8,39 @@ use lib.Dec.{ltb}
 use lib.ListN.{length, set}
 use borrow.Author.Tests.{ltb-true}
 use Rattle.definitions.specs.Values.{Val, Out, value, fault, kindNumber}
+use Rattle.definitions.specs.declared.Flaw.{Flaw}
+use Rattle.definitions.specs.declared.Finish.{Finish}
 use Rattle.definitions.specs.declared.Kind.{Kind}
 use Rattle.definitions.specs.declared.Kind.the-variants.{ZeroDivisor, OutOfRange}
 use Rattle.definitions.specs.Rule.{Expr, Stmt, Set, Emit, End, Rule, blockOf}
 use Rattle.definitions.specs.Meaning.{eval}
-use Rattle.definitions.specs.Direct.{Way, on, ended, onward, with, emitted, step, steps, Exit, toBlock, toRound, toStop, exit, Round, jumped, finished, leave, through, walk, quotaFull}
+use Rattle.definitions.specs.Direct.{faulted, Way, on, ended, onward, with, emitted, step, steps, Exit, toBlock, toRound, toStop, exit, Round, jumped, finished, leave, through, walk, quotaFull}
 
--- the statuses of a row that has ended
-abbrev pub Ends : ℕ → Type 0
-Ends st = (0 < st) × (st ≤ 4)
+-- how a row ends that has ended
+abbrev pub Ends : Finish → Type 0
+Ends how = (0 < how .status) × (how .status ≤ 4)
 
 abbrev pub KeptWay : (E L : List Val → Type 0) → Way → Type 0
 KeptWay E L (on env ls) = E env × L ls
-KeptWay E L (ended st ls) = Ends st × L ls
+KeptWay E L (ended how ls) = Ends how × L ls
 
 abbrev pub KeptRound : (E L : List Val → Type 0) → Round → Type 0
 KeptRound E L (jumped t env ls) = E env × L ls
-KeptRound E L (finished st ls) = Ends st × L ls
+KeptRound E L (finished how ls) = Ends how × L ls
 
-fault-ends : (k : Kind) → Ends (kindNumber k)
-fault-ends ZeroDivisor = omega arith
-fault-ends OutOfRange = omega arith
+fault-ends : (f : Flaw) → Ends (faulted f)
+fault-ends f = go (f .kind)
+  where
+    go : (k : Kind) → (0 < kindNumber k) × (kindNumber k ≤ 4)
+    go ZeroDivisor = omega arith
+    go OutOfRange = omega arith
 
 module _ (q : ℕ) (Ok : Stmt → Type 0) (E L : List Val → Type 0)
     (sets : (i : ℕ) (a : Expr) (env : List Val) (z : Val) → Ok (Set i a) → E env → eval a env ≡ value z → E (set env i z))
     (emits : (a : Expr) (env ls : List Val) (z : Val) → Ok (Emit a) → E env → L ls → eval a env ≡ value z → length ls < q → L (ls ++ (z ∷ []))) where
-  with-kept : (o : Out Val) (ls : List Val) (f : Val → Way) → L ls → ((z : Val) → o ≡ value z → KeptWay E L (f z)) → KeptWay E L (with o ls f)
+  with-kept : (o : Out Flaw Val) (ls : List Val) (f : Val → Way) → L ls → ((z : Val) → o ≡ value z → KeptWay E L (f z)) → KeptWay E L (with o ls f)
   with-kept (value z) ls f l h = h z refl
-  with-kept (fault k) ls f l h = (fault-ends (k .kind), l)
+  with-kept (fault k) ls f l h = (fault-ends k, l)
 
   emitted-kept : (env ls : List Val) (z : Val) → E env → L ls → (length ls < q → L (ls ++ (z ∷ []))) → KeptWay E L (emitted q env ls z)
   emitted-kept env ls z e l h = go (ltb (length ls) q) refl
@@ -51,22 +56,22 @@ module _ (q : ℕ) (Ok : Stmt → Type 0) (E L : List Val → Type 0)
 
   onward-kept : (w : Way) (f : List Val → List Val → Way) → KeptWay E L w → ((env ls : List Val) → E env → L ls → KeptWay E L (f env ls)) → KeptWay E L (onward w f)
   onward-kept (on env ls) f k h = h env ls (k .0) (k .1)
-  onward-kept (ended st ls) f k h = k
+  onward-kept (ended how ls) f k h = k
 
   pub steps-kept : (xs : List Stmt) (env ls : List Val) → ((s : Stmt) → List·Memᴰ s xs → Ok s) → E env → L ls → KeptWay E L (steps q xs env ls)
   unfolding steps
   steps-kept [] env ls o e l = (e, l)
   steps-kept (s ∷ xs) env ls o e l = onward-kept (step q s env ls) _ (step-kept s env ls (o s (List·Memᴰ·head refl)) e l) (λ env ls e l. steps-kept xs env ls (λ s m. o s (List·Memᴰ·tail m)) e l)
 
-  pub leave-kept : (o : Out Exit) (env ls : List Val) (W : ℕ → Round) → E env → L ls → ((t : ℕ) → KeptRound E L (W t)) → KeptRound E L (leave o env ls W)
+  pub leave-kept : (o : Out Flaw Exit) (env ls : List Val) (W : ℕ → Round) → E env → L ls → ((t : ℕ) → KeptRound E L (W t)) → KeptRound E L (leave o env ls W)
   leave-kept (value (toBlock t)) env ls W e l h = h t
   leave-kept (value (toRound t)) env ls W e l h = (e, l)
   leave-kept (value toStop) env ls W e l h = (omega arith, l)
-  leave-kept (fault k) env ls W e l h = (fault-ends (k .kind), l)
+  leave-kept (fault k) env ls W e l h = (fault-ends k, l)
 
   through-kept : (w : Way) (d : End) (W : ℕ → List Val → List Val → Round) → KeptWay E L w → ((t : ℕ) (env ls : List Val) → E env → L ls → KeptRound E L (W t env ls)) → KeptRound E L (through w d W)
   through-kept (on env ls) d W k h = leave-kept (exit d env) env ls _ (k .0) (k .1) (λ t. h t env ls (k .0) (k .1))
-  through-kept (ended st ls) d W k h = k
+  through-kept (ended how ls) d W k h = k
 
   pub walk-kept : (r : Rule) → ((b : ℕ) (s : Stmt) → List·Memᴰ s (blockOf r b .body) → Ok s) → (f b : ℕ) (env ls : List Val) → E env → L ls → KeptRound E L (walk f r q b env ls)
   unfolding walk

@@ -4,15 +4,16 @@ use mathlib.Core.Path.{_≡_, refl}
 use mathlib.Core.Bool.{Bool, true, false, cond, _||_}
 use mathlib.Core.List.{List, [], _∷_, _++_}
 use lib.Dec.{eqb}
-use lib.IntN.{ℤ, pos, natAbs}
+use lib.IntN.{ℤ, natAbs}
 use lib.Signed.{ltZ}
 use lib.ListN.{length, getD, set, replicate}
-use Rattle.definitions.specs.Values.{Val, Out, value, fault, flaw, also, settled, least, most, negation, divided, quotient, remainder}
+use Rattle.definitions.specs.Values.{Val, number, asWord, unset, Out, value, fault, also, settled, lowest, highest, negation, divided, quotient, remainder}
+use Rattle.definitions.specs.declared.Flaw.{Flaw}
+use Rattle.definitions.specs.declared.Kind.{Kind}
 use Rattle.definitions.specs.declared.Kind.the-variants.{ZeroDivisor, OutOfRange}
 use Rattle.definitions.specs.Rule.{Operator, Add, Subtract, Multiply, Divide, Remainder, Expr, Const, Var, Neg, Op, Case, Rule, size}
-use Rattle.definitions.specs.Meaning.{eval, holds, applied}
-use Rattle.definitions.specs.Direct.{State, Round, jumped, finished, start, joined, advance, after}
-use Rattle.definitions.specs.Batch.{goesOn}
+use Rattle.definitions.specs.Meaning.{applied, handedUp, negated, operated, eval, holds}
+use Rattle.definitions.specs.Direct.{State, goesOn, Round, jumped, finished, start, joined, advance, after}
 use Rattle.columns.specs.Range.{AllInRange, Bounded, worked, Constants, Ranged}
 use Rattle.definitions.specs.Limits.{InRange}
 use Rattle.columns.proofs.Keeping.{KeptRound, walk-kept}
@@ -21,9 +22,9 @@ use Rattle.columns.proofs.Rows.{roundOf}
 -- ---- what is worked out
 settled-again : (z w : ℤ) → settled z ≡ value w → InRange w
 unfolding settled
-settled-again z w h = go (ltZ z least || ltZ most z) refl h
+settled-again z w h = go (ltZ z lowest || ltZ highest z) refl h
   where
-    go : (t : Bool) → (ltZ z least || ltZ most z) ≡ t → cond t (fault (flaw OutOfRange)) (value z) ≡ value w → settled w ≡ value w
+    go : (t : Bool) → (ltZ z lowest || ltZ highest z) ≡ t → cond t (fault OutOfRange) (value z) ≡ value w → settled w ≡ value w
     go true p e = cc
     go false p e =
         let same : z ≡ w = cc in
@@ -32,11 +33,11 @@ settled-again z w h = go (ltZ z least || ltZ most z) refl h
 divided-in : (y z w : ℤ) → divided y (settled z) ≡ value w → InRange w
 divided-in y z w = go (eqb (natAbs y) 0)
   where
-    go : (t : Bool) → cond t (fault (flaw ZeroDivisor)) (settled z) ≡ value w → InRange w
+    go : (t : Bool) → cond t (fault ZeroDivisor) (settled z) ≡ value w → InRange w
     go true e = cc
     go false e = settled-again z w e
 
-applied-in : (o : Operator) (x y w : Val) → applied o x y ≡ value w → InRange w
+applied-in : (o : Operator) (x y w : ℤ) → applied o x y ≡ value w → InRange w
 unfolding quotient remainder
 applied-in Add x y w e = settled-again _ w e
 applied-in Subtract x y w e = settled-again _ w e
@@ -44,34 +45,47 @@ applied-in Multiply x y w e = settled-again _ w e
 applied-in Divide x y w e = divided-in y _ w e
 applied-in Remainder x y w e = divided-in y _ w e
 
-eval-in : (a : Expr) (env : List Val) (w : Val) → Bounded a → AllInRange env → eval a env ≡ value w → InRange w
+-- what is handed up is an operator's result
+handed-in : (o : Out Kind ℤ) (w : Val) → ((z : ℤ) → o ≡ value z → InRange z) → handedUp o ≡ value w → InRange (asWord w)
+handed-in (value z) w h e =
+    let same : number z ≡ w = cc in
+    rw (← same) (h z refl)
+handed-in (fault k) w h e = cc
+
+negated-in : (x w : Val) → negated x ≡ value w → InRange (asWord w)
+negated-in (number x) w e = handed-in (negation x) w (λ z. settled-again _ z) e
+
+operated-in : (o : Operator) (x y w : Val) → operated o x y ≡ value w → InRange (asWord w)
+operated-in o (number x) (number y) w e = handed-in (applied o x y) w (applied-in o x y) e
+
+eval-in : (a : Expr) (env : List Val) (w : Val) → Bounded a → AllInRange env → eval a env ≡ value w → InRange (asWord w)
 unfolding eval Bounded
 eval-in (Const z) env w b h e =
-    let same : z ≡ w = cc in
+    let same : number z ≡ w = cc in
     rw (← same) b
 eval-in (Var k) env w b h e =
-    let same : getD env k (pos 0) ≡ w = cc in
+    let same : getD env k unset ≡ w = cc in
     rw (← same) (h k)
 eval-in (Neg a) env w b h e = go (eval a env) e
   where
-    go : (o : Out Val) → also o (λ x. negation x) ≡ value w → InRange w
-    go (value x) e = settled-again _ w e
+    go : (o : Out Flaw Val) → also o (λ x. negated x) ≡ value w → InRange (asWord w)
+    go (value x) e = negated-in x w e
     go (fault k) e = cc
 eval-in (Op o a c) env w b h e = go (eval a env) (eval c env) e
   where
-    go : (m n : Out Val) → also m (λ x. also n (λ y. applied o x y)) ≡ value w → InRange w
-    go (value x) (value y) e = applied-in o x y w e
+    go : (m n : Out Flaw Val) → also m (λ x. also n (λ y. operated o x y)) ≡ value w → InRange (asWord w)
+    go (value x) (value y) e = operated-in o x y w e
     go (value x) (fault k) e = cc
     go (fault k) n e = cc
 eval-in (Case c a d) env w b h e = go (holds c env) (eval-in a env w (b .0) h) (eval-in d env w (b .1) h) e
   where
-    go : (m : Out Bool) → (eval a env ≡ value w → InRange w) → (eval d env ≡ value w → InRange w) → also m (λ t. cond t (eval a env) (eval d env)) ≡ value w → InRange w
+    go : (m : Out Flaw Bool) → (eval a env ≡ value w → InRange (asWord w)) → (eval d env ≡ value w → InRange (asWord w)) → also m (λ t. cond t (eval a env) (eval d env)) ≡ value w → InRange (asWord w)
     go (value true) f g e = f e
     go (value false) f g e = g e
     go (fault k) f g e = cc
 
 -- ---- lists of values
-in-set : (xs : List Val) (i : ℕ) (z : Val) → InRange z → AllInRange xs → AllInRange (set xs i z)
+in-set : (xs : List Val) (i : ℕ) (z : Val) → InRange (asWord z) → AllInRange xs → AllInRange (set xs i z)
 in-set [] i z p h k = h k
 in-set (x ∷ xs) zero z p h zero = p
 in-set (x ∷ xs) zero z p h (suc k) = h (suc k)
@@ -87,11 +101,11 @@ in-none : AllInRange []
 unfolding settled
 in-none k = refl
 
-in-one : (z : Val) → InRange z → AllInRange (z ∷ [])
+in-one : (z : Val) → InRange (asWord z) → AllInRange (z ∷ [])
 in-one z p zero = p
 in-one z p (suc k) = in-none k
 
-in-zeros : (n : ℕ) → AllInRange (replicate n (pos 0))
+in-zeros : (n : ℕ) → AllInRange (replicate n unset)
 in-zeros zero k = in-none k
 in-zeros (suc n) zero = in-none zero
 in-zeros (suc n) (suc k) = in-zeros n k
@@ -103,11 +117,11 @@ start-ranged r args h = record { vars-in = in-append args _ h (in-zeros (r .vari
 module _ (r : Rule) (q : ℕ) (c : Constants r) where
   joined-ranged : (s : State) → Ranged s → (R : Round) → KeptRound AllInRange AllInRange R → Ranged (joined s R)
   joined-ranged s h (jumped t env ls) k = record { vars-in = k .0; labels-in = k .1 }
-  joined-ranged s h (finished st ls) k = record { vars-in = h .vars-in; labels-in = k .1 }
+  joined-ranged s h (finished how ls) k = record { vars-in = h .vars-in; labels-in = k .1 }
 
   advance-ranged : (s : State) → Ranged s → Ranged (advance r q s)
   unfolding advance
-  advance-ranged s h = go (goesOn s)
+  advance-ranged s h = go (goesOn (s .finish))
     where
       go : (t : Bool) → Ranged (cond t (joined s (roundOf r q s)) s)
       go true =

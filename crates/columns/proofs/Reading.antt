@@ -3,10 +3,9 @@ use Prim.Native.Nat.{ℕ}
 use mathlib.Core.Path.{_≡_, refl, ap}
 use mathlib.Core.Bool.{Bool, true, _||_}
 use mathlib.Core.List.{List}
-use lib.IntN.{pos}
 use lib.ListN.{getD}
 use borrow.Author.Tests.{eq-eqb}
-use Rattle.definitions.specs.Values.{Val, value}
+use Rattle.definitions.specs.Values.{Val, unset, value}
 use Rattle.definitions.specs.Rule.{Expr, Cond, Const, Var, Neg, Op, Case, Compare, Not, Join, End, Goto, Jump, Stop, If}
 use Rattle.definitions.specs.Meaning.{eval, holds}
 use Rattle.definitions.specs.Direct.{exit}
@@ -15,7 +14,7 @@ use Rattle.definitions.proofs.Tests.{or-left, or-right}
 
 -- x and y agree on a set of variables
 abbrev pub Agree : (ℕ → Bool) → List Val → List Val → Type 0
-Agree A x y = (k : ℕ) → A k ≡ true → getD x k (pos 0) ≡ getD y k (pos 0)
+Agree A x y = (k : ℕ) → A k ≡ true → getD x k unset ≡ getD y k unset
 
 module _ (A B : ℕ → Bool) (x y : List Val) (h : Agree (λ k. A k || B k) x y) where
   agree-left : Agree A x y

@@ -5,14 +5,12 @@ use mathlib.Core.Bool.{Bool, true, false, cond}
 use mathlib.Core.List.{List, [], _∷_, _++_, append-assoc, append-nil}
 use native.Mathlib.Omega.{arith}
 use native.Mathlib.Nat.{zero-add, add-zero, add-suc}
-use lib.IntN.{pos}
 use lib.ListN.{length, replicate, length-append, length-replicate, length-set}
 use borrow.Author.Tests.{eqb-true, eqb-false}
-use Rattle.definitions.specs.Values.{Val}
+use Rattle.definitions.specs.Values.{Val, unset}
 use Rattle.definitions.specs.Rule.{Rule, size}
-use Rattle.definitions.specs.Direct.{State, Round, jumped, finished, walk, start, joined, advance, after}
+use Rattle.definitions.specs.Direct.{State, goesOn, Round, jumped, finished, walk, start, joined, advance, after}
 use Rattle.definitions.specs.Columns.{flowOf}
-use Rattle.definitions.specs.Batch.{goesOn}
 use Rattle.definitions.proofs.Columns.{entry-in-J}
 use Rattle.columns.specs.OnPlan.{narrowed, lineRound}
 use Rattle.columns.specs.Proper.{Proper}
@@ -49,15 +47,15 @@ grown-trans q a b c g h = record {
 
 seen-joined : (r : Rule) (s : State) (R : Round) → seen r (joined s R) ≡ joinedOn (seen r s) (narrowed r R)
 seen-joined r s (jumped t env ls) = refl
-seen-joined r s (finished st ls) = refl
+seen-joined r s (finished how ls) = refl
 
 -- ---- one round
 module _ (r : Rule) (q : ℕ) where
-  pub advance-done : (s : State) → goesOn s ≡ false → advance r q s ≡ s
+  pub advance-done : (s : State) → goesOn (s .finish) ≡ false → advance r q s ≡ s
   unfolding advance
   advance-done s e = rw e
 
-  pub advance-on : (s : State) → goesOn s ≡ true → advance r q s ≡ joined s (roundOf r q s)
+  pub advance-on : (s : State) → goesOn (s .finish) ≡ true → advance r q s ≡ joined s (roundOf r q s)
   unfolding advance
   advance-on s e = rw e
 
@@ -69,7 +67,7 @@ module _ (r : Rule) (q : ℕ) where
       r (λ b s m. tt) f b env ls refl (grown-self q ls h)
 
   module _ (ok : Proper r) (n : ℕ) (s : State) (h : Sound r q n s) where
-    joined-sound : goesOn s ≡ true → Sound r q (suc n) (joined s (roundOf r q s))
+    joined-sound : goesOn (s .finish) ≡ true → Sound r q (suc n) (joined s (roundOf r q s))
     joined-sound e = go (roundOf r q s) refl (walk-keeps (size r) (s .block) (s .vars) (s .labels) (h .labels-few))
       where
         go : (R : Round) → roundOf r q s ≡ R → KeptRound (λ x. length x ≡ length (s .vars)) (Grown q (s .labels)) R → Sound r q (suc n) (joined s R)
@@ -77,17 +75,19 @@ module _ (r : Rule) (q : ℕ) where
             let j = jumps-into-J r ok q (s .block) (s .vars) (s .labels) (h .vars-all) (h .block-below) t env ls p in
             record {
               status-low = omega arith;
+              unended = λ z. refl;
               began = omega (arith, h .began);
-              going = λ z. omega (arith, h .going (eqb-true (s .status) 0 e));
+              going = λ z. omega (arith, h .going e);
               labels-few = k .1 .few;
               block-below = j .0;
               block-in-J = j .1;
               vars-all = k .0 ∙ h .vars-all;
             }
-        go (finished st ls) p k = record {
+        go (finished how ls) p k = record {
           status-low = k .0 .1;
+          unended = λ z. absurd (omega (arith, k .0, eqb-true (how .status) 0 z));
           began = omega (arith, h .began);
-          going = λ z. absurd (omega (arith, k .0));
+          going = λ z. absurd (omega (arith, k .0, eqb-true (how .status) 0 z));
           labels-few = k .1 .few;
           block-below = h .block-below;
           block-in-J = h .block-in-J;
@@ -95,14 +95,15 @@ module _ (r : Rule) (q : ℕ) where
         }
 
     pub advance-sound : Sound r q (suc n) (advance r q s)
-    advance-sound = go (goesOn s) refl
+    advance-sound = go (goesOn (s .finish)) refl
       where
-        go : (t : Bool) → goesOn s ≡ t → Sound r q (suc n) (advance r q s)
+        go : (t : Bool) → goesOn (s .finish) ≡ t → Sound r q (suc n) (advance r q s)
         go true e = rw (advance-on s e) (joined-sound e)
         go false e = rw (advance-done s e) record {
           status-low = h .status-low;
+          unended = h .unended;
           began = omega (arith, h .began);
-          going = λ z. absurd (eqb-false (s .status) 0 e z);
+          going = λ z. absurd (eqb-false (s .finish .status) 0 e (eqb-true (s .finish .status) 0 z));
           labels-few = h .labels-few;
           block-below = h .block-below;
           block-in-J = h .block-in-J;
@@ -111,11 +112,11 @@ module _ (r : Rule) (q : ℕ) where
 
     advance-grown : Grown q (s .labels) (advance r q s .labels)
     unfolding advance
-    advance-grown = go (goesOn s)
+    advance-grown = go (goesOn (s .finish))
       where
         ended : (R : Round) → KeptRound (λ x. length x ≡ length (s .vars)) (Grown q (s .labels)) R → Grown q (s .labels) (joined s R .labels)
         ended (jumped t env ls) k = k .1
-        ended (finished st ls) k = k .1
+        ended (finished how ls) k = k .1
 
         go : (t : Bool) → Grown q (s .labels) (cond t (joined s (roundOf r q s)) s .labels)
         go true = ended (roundOf r q s) (walk-keeps (size r) (s .block) (s .vars) (s .labels) (h .labels-few))
@@ -123,7 +124,7 @@ module _ (r : Rule) (q : ℕ) where
 
     pub seen-advance : seen r (advance r q s) ≡ advanceOn r q (seen r s)
     unfolding advance advanceOn
-    seen-advance = go (goesOn s)
+    seen-advance = go (goesOn (s .finish))
       where
         go : (t : Bool) → seen r (cond t (joined s (roundOf r q s)) s) ≡ cond t (joinedOn (seen r s) (lineRound r q (s .block) (seen r s .cols) (s .labels))) (seen r s)
         go true = rw (on-plan r ok q (s .block) (s .vars) (s .labels) (h .vars-all) (h .block-below) (h .block-in-J)) (seen-joined r s (roundOf r q s))
@@ -132,6 +133,7 @@ module _ (r : Rule) (q : ℕ) where
   pub sound-now : (n : ℕ) (s : State) → Sound r q n s → SoundNow r q s
   sound-now n s h = record {
     status-low = h .status-low;
+    unended = h .unended;
     began = omega arith;
     going = λ z. refl;
     labels-few = h .labels-few;
@@ -146,7 +148,7 @@ module _ (r : Rule) (q : ℕ) where
   after-add n zero s = rw add-zero
   after-add n (suc m) s = rw (add-suc, after-add n m s)
 
-  pub after-done : (n : ℕ) (s : State) → goesOn s ≡ false → after r q n s ≡ s
+  pub after-done : (n : ℕ) (s : State) → goesOn (s .finish) ≡ false → after r q n s ≡ s
   unfolding after
   after-done zero s e = refl
   after-done (suc n) s e = rw (after-done n s e) (advance-done s e)
@@ -155,12 +157,13 @@ module _ (r : Rule) (q : ℕ) where
     pub start-sound : (args : List Val) → length args ≤ r .variables → Sound r q 0 (start r args)
     start-sound args l = record {
       status-low = omega arith;
+      unended = λ z. refl;
       began = omega arith;
       going = λ z. refl;
       labels-few = omega arith;
       block-below = ok .entry;
       block-in-J = entry-in-J (flowOf r);
-      vars-all = omega (arith, length-append args (replicate (r .variables - length args) (pos 0)), length-replicate (r .variables - length args) (pos 0));
+      vars-all = omega (arith, length-append args (replicate (r .variables - length args) unset), length-replicate (r .variables - length args) unset);
     }
 
     module _ (m : ℕ) (s : State) (h : Sound r q m s) where

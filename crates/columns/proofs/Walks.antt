@@ -7,6 +7,8 @@ use native.Mathlib.Omega.{arith}
 use lib.Dec.{eqb}
 use lib.ListN.{length}
 use Rattle.definitions.specs.Values.{Val, Out, value, fault}
+use Rattle.definitions.specs.declared.Flaw.{Flaw}
+use Rattle.definitions.specs.declared.Finish.{Finish}
 use Rattle.definitions.specs.Rule.{Rule, size, blockOf}
 use Rattle.definitions.specs.Direct.{Exit, toBlock, toRound, toStop, exit, Way, on, ended, Round, jumped, finished, leave, through, steps, walk, stopped, faulted}
 use Rattle.definitions.specs.Columns.{flowOf, inputsOf, outputsOf, names, J, outputs, LC, sets, goesTo, jumpsTo}
@@ -24,7 +26,7 @@ use Rattle.columns.proofs.Endings.{Named, exit-named}
 -- two rounds: both ended alike, or both jump to one block of J, with the same labels and environments that agree on the LC columns
 pub data Rounds (r : Rule) (a b : Round) : Type 0 where
   both-jumped : (t : ℕ) (x y ls : List Val) → a ≡ jumped t x ls → b ≡ jumped t y ls → t < size r → J (flowOf r) t ≡ true → Alike (r .variables) (LC (flowOf r)) x y → Rounds r a b
-  both-finished : (st : ℕ) (ls : List Val) → a ≡ finished st ls → b ≡ finished st ls → Rounds r a b
+  both-finished : (how : Finish) (ls : List Val) → a ≡ finished how ls → b ≡ finished how ls → Rounds r a b
 
 module _ (r : Rule) (ok : Proper r) where
   -- ---- the sets of a block
@@ -53,7 +55,7 @@ module _ (r : Rule) (ok : Proper r) where
     jumped-in-J t p = or-right (eqb t 0) _ (some-in (size r) b (λ c. jumpsTo (blockOf r c .ending) t) l p)
 
     -- ---- the ending
-    leave-alike : (o : Out Exit) → Named (blockOf r b .ending) o → (x y ls : List Val) → Alike (r .variables) (outputsOf (flowOf r) b) x y → (W U : ℕ → Round)
+    leave-alike : (o : Out Flaw Exit) → Named (blockOf r b .ending) o → (x y ls : List Val) → Alike (r .variables) (outputsOf (flowOf r) b) x y → (W U : ℕ → Round)
         → ((t : ℕ) → t < size r → ok .rank t < ok .rank b → Alike (r .variables) (inputsOf (flowOf r) t) x y → Rounds r (W t) (U t)) → Rounds r (leave o x ls W) (leave o y ls U)
     leave-alike (value (toBlock t)) n x y ls w W U h =
         let m = ok .goto-below b t l (n .goes t refl) in
@@ -75,7 +77,7 @@ module _ (r : Rule) (ok : Proper r) where
         go c d (both-on x y ls p q w) =
             rw (p, q, exit-alike (blockOf r b .ending) x y (looks-agree (r .variables) _ (blockOf r b .body) _ x y covered w))
             (leave-alike (exit (blockOf r b .ending) y) (exit-named (blockOf r b .ending) y) x (handed r b y) ls (alike-kept _ (r .variables) x y (alike-less _ _ _ x y handed-on w)) _ _ (λ t m n. h t x (handed r b y) ls m n))
-        go c d (both-ended st ls p q) = both-finished st ls (rw p) (rw q)
+        go c d (both-ended how ls p q) = both-finished how ls (rw p) (rw q)
 
   -- ---- the round: from block b on, more blocks than its rank are enough
   pub walk-alike : (f q b : ℕ) (x y ls : List Val) → b < size r → ok .rank b < f → Alike (r .variables) (inputsOf (flowOf r) b) x y → Rounds r (walk f r q b x ls) (planWalk f r q b y ls)
@@ -90,7 +92,7 @@ module _ (r : Rule) (ok : Proper r) where
       let n = exit-named (blockOf r b .ending) env in
       (ok .goto-below b t l (n .goes t p), ok .ranked .falls b t l (n .goes t p))
 
-  leave-same : (o : Out Exit) (env ls : List Val) (W U : ℕ → Round) → ((t : ℕ) → o ≡ value (toBlock t) → W t ≡ U t) → leave o env ls W ≡ leave o env ls U
+  leave-same : (o : Out Flaw Exit) (env ls : List Val) (W U : ℕ → Round) → ((t : ℕ) → o ≡ value (toBlock t) → W t ≡ U t) → leave o env ls W ≡ leave o env ls U
   leave-same (value (toBlock t)) env ls W U h = h t refl
   leave-same (value (toRound t)) env ls W U h = refl
   leave-same (value toStop) env ls W U h = refl
@@ -99,7 +101,7 @@ module _ (r : Rule) (ok : Proper r) where
   module _ (b : ℕ) (l : b < size r) (W U : ℕ → List Val → List Val → Round) (h : (t : ℕ) (env ls : List Val) → t < size r → ok .rank t < ok .rank b → W t env ls ≡ U t env ls) where
     through-same : (w : Way) → through w (blockOf r b .ending) W ≡ through w (blockOf r b .ending) U
     through-same (on env ls) = leave-same _ env ls _ _ (λ t p. let m = goto-falls b env l t p in h t env ls (m .0) (m .1))
-    through-same (ended st ls) = refl
+    through-same (ended how ls) = refl
 
   pub walk-enough : (f g q b : ℕ) (env ls : List Val) → b < size r → ok .rank b < f → ok .rank b < g → walk f r q b env ls ≡ walk g r q b env ls
   unfolding walk
@@ -115,7 +117,7 @@ module _ (r : Rule) (ok : Proper r) where
       go d (both-jumped u x y ls p q m j w) =
           let same : u ≡ t = cc in
           (rw same at m, rw same at j)
-      go d (both-finished st ls p q) =
+      go d (both-finished how ls p q) =
           let clash : _≡_ {A = ℕ} 0 1 = cc in
           absurd (omega arith)
 
@@ -130,4 +132,4 @@ module _ (r : Rule) (ok : Proper r) where
     where
       go : (c d : Round) → Rounds r c d → narrowed r d ≡ narrowed r c
       go c d (both-jumped t x y ls p q m i w) = rw (p, q) (ap (λ (l : List Val). jumped t l ls) (sym (columns-same (LC (flowOf r)) (r .variables) x y (w .same))))
-      go c d (both-finished st ls p q) = rw (p, q)
+      go c d (both-finished how ls p q) = rw (p, q)

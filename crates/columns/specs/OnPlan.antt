@@ -3,18 +3,17 @@
 use Prim.Native.Nat.{ℕ, zero, suc}
 use mathlib.Core.Bool.{Bool, cond}
 use mathlib.Core.List.{List}
-use lib.IntN.{pos}
 use lib.ListN.{getD, set, replicate}
-use Rattle.definitions.specs.Values.{Val}
+use Rattle.definitions.specs.Values.{Val, unset}
 use Rattle.definitions.specs.Rule.{End, Rule, size, blockOf}
 use Rattle.definitions.specs.Direct.{Way, on, ended, steps, exit, Round, jumped, finished, leave}
 use Rattle.definitions.specs.Columns.{flowOf, inputsOf, outputsOf, LC}
 use Rattle.definitions.specs.Batch.{columnsOf, countTo}
 
--- the variables below v that the set does not hold, put to 0
+-- the variables below v that the set does not hold, unset
 unfoldable pub kept : ℕ → (ℕ → Bool) → List Val → List Val
 kept zero f env = env
-kept (suc v) f env = cond (f v) (kept v f env) (set (kept v f env) v (pos 0))
+kept (suc v) f env = cond (f v) (kept v f env) (set (kept v f env) v unset)
 
 -- what block b is entered with, and what it hands on
 abbrev pub entered : Rule → ℕ → List Val → List Val
@@ -26,22 +25,22 @@ handed r b env = kept (r .variables) (outputsOf (flowOf r) b) env
 -- a block's ending sees all that the block has; what it leads to gets what the block hands on
 abbrev pub leaving : Rule → ℕ → Way → End → (ℕ → List Val → List Val → Round) → Round
 leaving r b (on env ls) e W = leave (exit e env) (handed r b env) ls (λ t. W t (handed r b env) ls)
-leaving r b (ended st ls) e W = finished st ls
+leaving r b (ended how ls) e W = finished how ls
 
 -- from block b on, as `walk` of the direct run
 unfoldable pub planWalk : ℕ → Rule → ℕ → ℕ → List Val → List Val → Round
 planWalk zero r q b env ls = jumped b env ls
 planWalk (suc f) r q b env ls = leaving r b (steps q (blockOf r b .body) (entered r b env) ls) (blockOf r b .ending) (λ t env ls. planWalk f r q t env ls)
 
--- a line's columns as 16 variables, those that are no columns at 0
+-- a line's columns as 16 variables, those that are no columns unset
 unfoldable pub spread : ℕ → (ℕ → Bool) → List Val → List Val
-spread zero f cols = replicate 16 (pos 0)
-spread (suc v) f cols = cond (f v) (set (spread v f cols) v (getD cols (countTo v f) (pos 0))) (spread v f cols)
+spread zero f cols = replicate 16 unset
+spread (suc v) f cols = cond (f v) (set (spread v f cols) v (getD cols (countTo v f) unset)) (spread v f cols)
 
 -- one round of a line: from its columns to the columns of its next line
 abbrev pub narrowed : Rule → Round → Round
 narrowed r (jumped b env ls) = jumped b (columnsOf (r .variables) (LC (flowOf r)) env) ls
-narrowed r (finished st ls) = finished st ls
+narrowed r (finished how ls) = finished how ls
 
 unfoldable pub lineRound : Rule → ℕ → ℕ → List Val → List Val → Round
 lineRound r q b cols ls = narrowed r (planWalk (size r) r q b (spread (r .variables) (LC (flowOf r)) cols) ls)

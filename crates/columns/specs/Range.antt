@@ -1,15 +1,14 @@
 -- Values stay in the range: what a rule's constants have to keep to for that, and what it says of a row's state.
 use Prim.Native.Nat.{ℕ}
 use mathlib.Core.List.{List, List·Memᴰ}
-use lib.IntN.{pos}
 use lib.ListN.{getD}
-use Rattle.definitions.specs.Values.{Val}
+use Rattle.definitions.specs.Values.{Val, asWord, unset}
 use Rattle.definitions.specs.Rule.{Expr, Const, Var, Neg, Op, Case, Stmt, Set, Emit, Rule, blockOf}
 use Rattle.definitions.specs.Direct.{State}
 use Rattle.definitions.specs.Limits.{InRange}
 
 abbrev pub AllInRange : List Val → Type 0
-AllInRange xs = (k : ℕ) → InRange (getD xs k (pos 0))
+AllInRange xs = (k : ℕ) → InRange (asWord (getD xs k unset))
 
 -- each constant that may come out as the expression's value: operators test their results
 unfoldable pub Bounded : Expr → Type 0

@@ -4,17 +4,17 @@ use Prim.Native.Nat.{ℕ, zero, suc, _+_, _≤_, _<_}
 use mathlib.Core.Path.{_≡_}
 use mathlib.Core.Bool.{true, cond}
 use mathlib.Core.List.{List}
-use lib.Dec.{eqb}
 use lib.ListN.{length}
 use Rattle.definitions.specs.Values.{Val}
 use Rattle.definitions.specs.Rule.{Rule, size}
-use Rattle.definitions.specs.Direct.{State, unfinished, Round, jumped, finished}
+use Rattle.definitions.specs.Direct.{State, unfinished, goesOn, Round, jumped, finished}
+use Rattle.definitions.specs.declared.Finish.{Finish}
 use Rattle.definitions.specs.Columns.{flowOf, J, LC}
 use Rattle.definitions.specs.Batch.{columnsOf}
 use Rattle.columns.specs.OnPlan.{lineRound}
 
 pub record Row : Type 0 where
-  pub status : ℕ
+  pub finish : Finish
   pub begun : ℕ  -- rounds
   pub labels : List Val
   pub block : ℕ  -- where the next round starts
@@ -22,15 +22,15 @@ pub record Row : Type 0 where
 
 -- of the direct run's variables a line holds the LC columns
 abbrev pub seen : Rule → State → Row
-seen r s = record { status = s .status; begun = s .begun; labels = s .labels; block = s .block; cols = columnsOf (r .variables) (LC (flowOf r)) (s .vars) }
+seen r s = record { finish = s .finish; begun = s .begun; labels = s .labels; block = s .block; cols = columnsOf (r .variables) (LC (flowOf r)) (s .vars) }
 
 -- the row after the round that it asked for, as `joined` of the direct run
 abbrev pub joinedOn : Row → Round → Row
-joinedOn s (jumped b cols ls) = record { status = unfinished; begun = s .begun + 1; labels = ls; block = b; cols = cols }
-joinedOn s (finished st ls) = record { status = st; begun = s .begun + 1; labels = ls; block = s .block; cols = s .cols }
+joinedOn s (jumped b cols ls) = record { finish = unfinished; begun = s .begun + 1; labels = ls; block = b; cols = cols }
+joinedOn s (finished how ls) = record { finish = how; begun = s .begun + 1; labels = ls; block = s .block; cols = s .cols }
 
 unfoldable pub advanceOn : Rule → ℕ → Row → Row
-advanceOn r q s = cond (eqb (s .status) unfinished) (joinedOn s (lineRound r q (s .block) (s .cols) (s .labels))) s
+advanceOn r q s = cond (goesOn (s .finish)) (joinedOn s (lineRound r q (s .block) (s .cols) (s .labels))) s
 
 unfoldable pub afterOn : Rule → ℕ → ℕ → Row → Row
 afterOn r q zero s = s
@@ -38,9 +38,10 @@ afterOn r q (suc n) s = advanceOn r q (afterOn r q n s)
 
 -- what holds of a row's state in the direct run after n rounds
 pub record Sound (r : Rule) (q n : ℕ) (s : State) : Type 0 where
-  pub status-low : s .status ≤ 4
+  pub status-low : s .finish .status ≤ 4
+  pub unended : goesOn (s .finish) ≡ true → s .finish ≡ unfinished
   pub began : s .begun ≤ n
-  pub going : s .status ≡ unfinished → s .begun ≡ n
+  pub going : goesOn (s .finish) ≡ true → s .begun ≡ n
   pub labels-few : length (s .labels) ≤ q
   pub block-below : s .block < size r
   pub block-in-J : J (flowOf r) (s .block) ≡ true

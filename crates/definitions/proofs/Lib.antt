@@ -4,3 +4,4 @@ pub mod Smallest
 pub mod Reached
 pub mod Columns
 pub mod Masks
+pub mod Values

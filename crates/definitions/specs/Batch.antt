@@ -2,29 +2,24 @@
 use Prim.Native.Nat.{ℕ, zero, suc, _+_, _-_, _*_, max}
 use mathlib.Core.Bool.{Bool, cond}
 use mathlib.Core.List.{List, [], _∷_, _++_, map}
-use lib.Dec.{eqb}
 use lib.IntN.{pos}
 use lib.ListN.{length, take, drop, getD, replicate}
-use Rattle.definitions.specs.Values.{Val}
+use Rattle.definitions.specs.Values.{Word, Val, valuesIn, wordsOf, unset}
 use Rattle.definitions.specs.Rule.{Rule}
-use Rattle.definitions.specs.Direct.{State, unfinished, start, after}
-
--- a word holds a value or a number from 0 up
-abbrev pub Word : Type 0
-Word = Val
+use Rattle.definitions.specs.Direct.{State, goesOn, start, after}
 
 -- ---- the rows
 
 -- row n at its start: its arguments lie row after row among the values
-abbrev pub startAt : Rule → List Val → ℕ → State
-startAt r values n = start r (take (r .arguments) (drop (n * r .arguments) values))
+abbrev pub startAt : Rule → List Word → ℕ → State
+startAt r values n = start r (valuesIn (take (r .arguments) (drop (n * r .arguments) values)))
 
-unfoldable pub startsOf : Rule → List Val → ℕ → List State
+unfoldable pub startsOf : Rule → List Word → ℕ → List State
 startsOf r values zero = []
 startsOf r values (suc n) = startsOf r values n ++ (startAt r values n ∷ [])
 
 -- all rows, each after the direct run's N rounds
-abbrev pub statesOf : Rule → List Val → ℕ → ℕ → ℕ → List State
+abbrev pub statesOf : Rule → List Word → ℕ → ℕ → ℕ → List State
 statesOf r values rows N q = map (after r q N) (startsOf r values rows)
 
 -- ---- the result buffer
@@ -34,7 +29,7 @@ recordSize q = 3 + q
 
 -- three numbers, then as many labels as the third says, then zeros up to the quota
 abbrev pub recordOf : ℕ → State → List Word
-recordOf q s = pos (s .status) ∷ pos (s .begun) ∷ pos (length (s .labels)) ∷ (s .labels ++ replicate (q - length (s .labels)) (pos 0))
+recordOf q s = pos (s .finish .status) ∷ pos (s .begun) ∷ pos (length (s .labels)) ∷ (wordsOf (s .labels) ++ replicate (q - length (s .labels)) (pos 0))
 
 unfoldable pub recordsOf : ℕ → List State → List Word
 recordsOf q [] = []
@@ -48,9 +43,9 @@ countTo zero f = 0
 countTo (suc v) f = countTo v f + cond (f v) 1 0
 
 -- the values of the variables below v that the set holds, in rising order
-unfoldable pub columnsOf : ℕ → (ℕ → Bool) → List Val → List Word
+unfoldable pub columnsOf : ℕ → (ℕ → Bool) → List Val → List Val
 columnsOf zero f vars = []
-columnsOf (suc v) f vars = columnsOf v f vars ++ cond (f v) (getD vars v (pos 0) ∷ []) []
+columnsOf (suc v) f vars = columnsOf v f vars ++ cond (f v) (getD vars v unset ∷ []) []
 
 -- a line's size, with so many columns
 abbrev pub lineSize : ℕ → ℕ
@@ -58,19 +53,16 @@ lineSize columns = 2 + columns
 
 -- which row it is, where its next round begins, and what it knows
 abbrev pub lineOf : ℕ → (ℕ → Bool) → ℕ → State → List Word
-lineOf v lc row s = pos row ∷ pos (s .block) ∷ columnsOf v lc (s .vars)
-
-abbrev pub goesOn : State → Bool
-goesOn s = eqb (s .status) unfinished
+lineOf v lc row s = pos row ∷ pos (s .block) ∷ wordsOf (columnsOf v lc (s .vars))
 
 -- the lines of the unfinished rows, in row order; the rows are numbered from k on
 unfoldable pub linesFrom : ℕ → (ℕ → Bool) → ℕ → List State → List Word
 linesFrom v lc k [] = []
-linesFrom v lc k (s ∷ ss) = cond (goesOn s) (lineOf v lc k s) [] ++ linesFrom v lc (k + 1) ss
+linesFrom v lc k (s ∷ ss) = cond (goesOn (s .finish)) (lineOf v lc k s) [] ++ linesFrom v lc (k + 1) ss
 
 unfoldable pub liveOf : List State → ℕ
 liveOf [] = 0
-liveOf (s ∷ ss) = cond (goesOn s) 1 0 + liveOf ss
+liveOf (s ∷ ss) = cond (goesOn (s .finish)) 1 0 + liveOf ss
 
 -- the LOOP table: those lines, and zeros to the size that all rows would take
 abbrev pub tableOf : ℕ → (ℕ → Bool) → List State → List Word

@@ -5,14 +5,14 @@ use mathlib.Core.Bool.{cond, not, _||_}
 use mathlib.Core.List.{List, [], _∷_, _++_}
 use lib.Dec.{eqb, ltb}
 use lib.ListN.{length, drop}
-use Rattle.definitions.specs.Values.{Val}
+use Rattle.definitions.specs.Values.{Word}
 use Rattle.definitions.specs.Rule.{Rule}
 use Rattle.definitions.specs.Grammar.{Got, got, refused, then, ruleOf, longest}
 use Rattle.definitions.specs.Direct.{State}
 use Rattle.definitions.specs.Columns.{flowOf, LC}
 use Rattle.definitions.specs.Plan.{planOf, planned}
 use Rattle.definitions.specs.Pages.{fileOf, unpacked}
-use Rattle.definitions.specs.Batch.{Word, statesOf, recordSize, recordsOf, countTo, lineSize, tableOf, mostOf}
+use Rattle.definitions.specs.Batch.{statesOf, recordSize, recordsOf, countTo, lineSize, tableOf, mostOf}
 use Rattle.definitions.specs.Finder.{mostRows, mostQuota}
 use Rattle.definitions.specs.declared.Refusal.{Refusal}
 use Rattle.definitions.specs.declared.Reply.{Reply}
@@ -61,7 +61,7 @@ pub record Wrote (what : Got (List ℕ)) (old : List ℕ) (r : Reply) (new : Lis
 pub record Batch : Type 0 where
   pub plan : List ℕ
   pub rows : ℕ
-  pub values : List Val
+  pub values : List Word
   pub budget : ℕ
   pub quota : ℕ
 

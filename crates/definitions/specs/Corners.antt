@@ -8,17 +8,17 @@ use mathlib.Core.List.{List, [], _∷_, _++_}
 use lib.IntN.{pos}
 use lib.ListN.{length, take, drop, replicate}
 use denote.Ref.{RefT}
-use Rattle.definitions.specs.Values.{Val, value, fault, flaw, settled, negation, sum, difference, quotient, remainder}
+use Rattle.definitions.specs.Values.{Word, number, value, fault, settled, negation, sum, difference, quotient, remainder}
 use Rattle.definitions.specs.Rule.{Add, Multiply, Divide, Remainder, Less, Equal, And, Or}
 use Rattle.definitions.specs.Rule.{Expr, Cond, Const, Var, Neg, Op, Compare, Not, Join, Stmt, Set, Emit, End, Goto, Jump, Stop, If, Block, Rule}
 use Rattle.definitions.specs.Grammar.{Got, got, refused, then, twos, exprTag, opTag, badExpr, condTag, compareTag, notTag, joinTag, badCond, stmtTag, noStmt, endTag, badEnd}
 use Rattle.definitions.specs.Grammar.{targetsOf, exprAt, condAt, endAt, blockFrom, blocksTo, headed, ruleOf}
-use Rattle.definitions.specs.Meaning.{eval, holds}
+use Rattle.definitions.specs.Meaning.{flaw, eval, holds}
 use Rattle.definitions.specs.Direct.{start, step, steps, exit, walk, advance, after}
 use Rattle.definitions.specs.Columns.{flowOf, some, reads, looks, endLooks, readFirst, sets, goesTo, jumpsTo, outputs, from, grown, growths, closure, inputsOf, outputsOf}
 use Rattle.definitions.specs.Plan.{maskOf, entryOf, entriesTo, planOf, same, planned, asPlan}
 use Rattle.definitions.specs.Pages.{lengthIn, wordSum, checkOf, pageBody, pageOf, pagesTo, fileOf, sizeOk, allZero, lengthOk, pageAt, payloadTo, unpacked}
-use Rattle.definitions.specs.Batch.{Word, startsOf, statesOf, recordOf, recordsOf, countTo, columnsOf, linesFrom, liveOf, mostOf}
+use Rattle.definitions.specs.Batch.{startsOf, statesOf, recordOf, recordsOf, countTo, columnsOf, linesFrom, liveOf, mostOf}
 use Rattle.definitions.specs.Finder.{isNumber, lineIndex, linePart, foundIn}
 use Rattle.definitions.specs.Calls.{Batch, refusal, left, toRead, toWrite, toCompile, replyIn, ranReply, runReply, recordsIn, tableIn}
 use Rattle.definitions.specs.Examples.{R, planR, smallest, ran, row, words, minus, All}
@@ -28,40 +28,40 @@ use Rattle.definitions.specs.declared.Kind.the-variants.{ZeroDivisor, Ou
 
 -- ---- short names
 
-abbrev number : ℕ → Expr
-number n = Const (pos n)
+abbrev numeral : ℕ → Expr
+numeral n = Const (pos n)
 
 -- an expression with fault 2, and one with fault 3
 abbrev byZero : Expr
-byZero = Op Divide (number 1) (number 0)
+byZero = Op Divide (numeral 1) (numeral 0)
 
 abbrev tooHigh : Expr
-tooHigh = Op Multiply (number 46341) (number 46341)
+tooHigh = Op Multiply (numeral 46341) (numeral 46341)
 
 -- conditions that hold, do not hold, and fault
 abbrev holding : Cond
-holding = Compare Less (number 1) (number 2)
+holding = Compare Less (numeral 1) (numeral 2)
 
 abbrev failing : Cond
-failing = Compare Less (number 2) (number 1)
+failing = Compare Less (numeral 2) (numeral 1)
 
 abbrev faulting : Cond
-faulting = Compare Less byZero (number 1)
+faulting = Compare Less byZero (numeral 1)
 
 -- a rule of one variable, which is no argument
 abbrev rule : List Block → Rule
-rule bs = record { variables = 1; arguments = 0; blocks = bs }
+rule bs = record { form = 1; variables = 1; arguments = 0; blocks = bs }
 
 abbrev block : List Stmt → End → Block
 block xs e = record { body = xs; ending = e }
 
 -- what one round of such a rule of one block leaves as record
-abbrev one : ℕ → List Stmt → End → List Word
-one q xs e = recordOf q (after (rule (block xs e ∷ [])) q 1 (start (rule (block xs e ∷ [])) []))
+abbrev leaves : ℕ → List Stmt → End → List Word
+leaves q xs e = recordOf q (after (rule (block xs e ∷ [])) q 1 (start (rule (block xs e ∷ [])) []))
 
 -- blocks that set the variable and go on, read it and stop, read it and begin block 1 again
 abbrev setting : Block
-setting = block (Set 0 (number 1) ∷ []) (Goto 1)
+setting = block (Set 0 (numeral 1) ∷ []) (Goto 1)
 
 abbrev reading : Block
 reading = block (Emit (Var 0) ∷ []) Stop
@@ -71,11 +71,11 @@ looping = block (Emit (Var 0) ∷ []) (Jump 1)
 
 -- an ending that asks for the variable
 abbrev asking : End
-asking = If (Compare Less (Var 0) (number 1)) Stop Stop
+asking = If (Compare Less (Var 0) (numeral 1)) Stop Stop
 
 -- 6 by the argument
 abbrev divides : Rule
-divides = record { variables = 1; arguments = 1; blocks = block (Emit (Op Divide (number 6) (Var 0)) ∷ []) Stop ∷ [] }
+divides = record { form = 1; variables = 1; arguments = 1; blocks = block (Emit (Op Divide (numeral 6) (Var 0)) ∷ []) Stop ∷ [] }
 
 -- a rule's bytes, of n blocks and one variable: where it ends, or its refusal
 abbrev blocks : ℕ → List ℕ → Got ℕ
@@ -93,7 +93,7 @@ abbrev asked : ℕ → ℕ → ℕ → ℕ → ℕ → Reply
 asked rows budget q out work = runReply (record { plan = smallestPlan; rows = rows; values = []; budget = budget; quota = q }) (planned smallestPlan) out work
 
 -- rows of R, with budget 2 and quota 4
-abbrev rows : List Val → Batch
+abbrev rows : List Word → Batch
 rows values = record { plan = planR; rows = length values; values = values; budget = 2; quota = 4 }
 
 -- a buffer in memory, and the words that the finder gives
@@ -147,25 +147,25 @@ rules-hold =
 pub ofMeaning : List (Type 0)
 ofMeaning =
     -- 13: the range of values
-    ((settled (minus 2147483648) ≡ value (minus 2147483648)) × (settled (minus 2147483649) ≡ fault (flaw OutOfRange)) × (settled (pos 2147483647) ≡ value (pos 2147483647)) × (settled (pos 2147483648) ≡ fault (flaw OutOfRange)))
+    ((settled (minus 2147483648) ≡ value (minus 2147483648)) × (settled (minus 2147483649) ≡ fault OutOfRange) × (settled (pos 2147483647) ≡ value (pos 2147483647)) × (settled (pos 2147483648) ≡ fault OutOfRange))
     -- 14: every operator's result has to lie in it
-    ∷ ((negation (minus 2147483648) ≡ fault (flaw OutOfRange)) × (sum (pos 2147483647) (pos 1) ≡ fault (flaw OutOfRange)) × (difference (minus 2147483648) (pos 1) ≡ fault (flaw OutOfRange)))
+    ∷ ((negation (minus 2147483648) ≡ fault OutOfRange) × (sum (pos 2147483647) (pos 1) ≡ fault OutOfRange) × (difference (minus 2147483648) (pos 1) ≡ fault OutOfRange))
     -- 15: a divisor of 0 is fault 2 in both
-    ∷ ((quotient (minus 2147483648) (pos 0) ≡ fault (flaw ZeroDivisor)) × (remainder (minus 2147483648) (pos 0) ≡ fault (flaw ZeroDivisor)))
+    ∷ ((quotient (minus 2147483648) (pos 0) ≡ fault ZeroDivisor) × (remainder (minus 2147483648) (pos 0) ≡ fault ZeroDivisor))
     -- 16: the operators that no example works out
-    ∷ ((eval (Neg (number 7)) [] ≡ value (minus 7)) × (eval (Op Multiply (number 7) (number 2)) [] ≡ value (pos 14)) × (eval (Op Divide (number 7) (number 2)) [] ≡ value (pos 3)) × (eval (Op Remainder (number 7) (number 2)) [] ≡ value (pos 1)))
+    ∷ ((eval (Neg (numeral 7)) [] ≡ value (number (minus 7))) × (eval (Op Multiply (numeral 7) (numeral 2)) [] ≡ value (number (pos 14))) × (eval (Op Divide (numeral 7) (numeral 2)) [] ≡ value (number (pos 3))) × (eval (Op Remainder (numeral 7) (numeral 2)) [] ≡ value (number (pos 1))))
     -- 17: left to right, and the first fault stands
     ∷ ((eval (Op Add byZero tooHigh) [] ≡ fault (flaw ZeroDivisor)) × (eval (Op Add tooHigh byZero) [] ≡ fault (flaw OutOfRange)) × (holds (Compare Less byZero tooHigh) [] ≡ fault (flaw ZeroDivisor)) × (holds (Compare Less tooHigh byZero) [] ≡ fault (flaw OutOfRange)))
     -- 18: and, or look right only where the left leaves it open
     ∷ ((holds (Join And failing faulting) [] ≡ value false) × (holds (Join Or holding faulting) [] ≡ value true) × (holds (Join And holding faulting) [] ≡ fault (flaw ZeroDivisor)) × (holds (Join Or failing faulting) [] ≡ fault (flaw ZeroDivisor)))
     -- 19: not, and equal of both signs
-    ∷ ((holds (Not holding) [] ≡ value false) × (holds (Compare Equal (Const (minus 1)) (Const (minus 1))) [] ≡ value true) × (holds (Compare Equal (number 1) (Const (minus 1))) [] ≡ value false))
+    ∷ ((holds (Not holding) [] ≡ value false) × (holds (Compare Equal (Const (minus 1)) (Const (minus 1))) [] ≡ value true) × (holds (Compare Equal (numeral 1) (Const (minus 1))) [] ≡ value false))
     -- 20: status 0 unfinished, 1 stopped, 2 and 3 the faults, 4 quota
-    ∷ ((one 0 [] (Jump 0) ≡ words (0 ∷ 1 ∷ 0 ∷ [])) × (one 0 [] Stop ≡ words (1 ∷ 1 ∷ 0 ∷ [])) × (one 0 (Emit byZero ∷ []) Stop ≡ words (2 ∷ 1 ∷ 0 ∷ [])) × (one 0 (Emit tooHigh ∷ []) Stop ≡ words (3 ∷ 1 ∷ 0 ∷ [])) × (one 0 (Emit (number 7) ∷ []) Stop ≡ words (4 ∷ 1 ∷ 0 ∷ [])))
+    ∷ ((leaves 0 [] (Jump 0) ≡ words (0 ∷ 1 ∷ 0 ∷ [])) × (leaves 0 [] Stop ≡ words (1 ∷ 1 ∷ 0 ∷ [])) × (leaves 0 (Emit byZero ∷ []) Stop ≡ words (2 ∷ 1 ∷ 0 ∷ [])) × (leaves 0 (Emit tooHigh ∷ []) Stop ≡ words (3 ∷ 1 ∷ 0 ∷ [])) × (leaves 0 (Emit (numeral 7) ∷ []) Stop ≡ words (4 ∷ 1 ∷ 0 ∷ [])))
     -- 21: labels emitted before a fault stay, in a statement and in an if
-    ∷ ((one 2 (Emit (number 7) ∷ Set 0 byZero ∷ []) Stop ≡ words (2 ∷ 1 ∷ 1 ∷ 7 ∷ 0 ∷ [])) × (one 2 (Emit (number 7) ∷ []) (If faulting Stop Stop) ≡ words (2 ∷ 1 ∷ 1 ∷ 7 ∷ 0 ∷ [])))
+    ∷ ((leaves 2 (Emit (numeral 7) ∷ Set 0 byZero ∷ []) Stop ≡ words (2 ∷ 1 ∷ 1 ∷ 7 ∷ 0 ∷ [])) × (leaves 2 (Emit (numeral 7) ∷ []) (If faulting Stop Stop) ≡ words (2 ∷ 1 ∷ 1 ∷ 7 ∷ 0 ∷ [])))
     -- 22: the label that the quota leaves no room for ends the row, and is not kept
-    ∷ (one 1 (Emit (number 7) ∷ Emit (number 8) ∷ []) Stop ≡ words (4 ∷ 1 ∷ 1 ∷ 7 ∷ []))
+    ∷ (leaves 1 (Emit (numeral 7) ∷ Emit (numeral 8) ∷ []) Stop ≡ words (4 ∷ 1 ∷ 1 ∷ 7 ∷ []))
     ∷ []
 
 pub meaning-hold : All ofMeaning
@@ -178,7 +178,7 @@ meaning-hold =
 pub ofColumns : List (Type 0)
 ofColumns =
     -- 23: FV: a set shields what comes after it, in statements and ending, but not its own expression
-    ((readFirst (Set 0 (Var 0) ∷ []) Stop 0 ≡ true) × (readFirst (Set 0 (number 1) ∷ Emit (Var 0) ∷ []) Stop 0 ≡ false) × (readFirst [] asking 0 ≡ true) × (readFirst (Set 0 (number 1) ∷ []) asking 0 ≡ false))
+    ((readFirst (Set 0 (Var 0) ∷ []) Stop 0 ≡ true) × (readFirst (Set 0 (numeral 1) ∷ Emit (Var 0) ∷ []) Stop 0 ≡ false) × (readFirst [] asking 0 ≡ true) × (readFirst (Set 0 (numeral 1) ∷ []) asking 0 ≡ false))
     -- 24: BV: what a block sets, it does not need for the blocks after it
     ∷ ((inputsOf (flowOf (rule (setting ∷ reading ∷ []))) 0 0 ≡ false) × (outputsOf (flowOf (rule (setting ∷ reading ∷ []))) 0 0 ≡ true))
     -- 25: J: its blocks have the same inputs, and tags count that nothing reaches

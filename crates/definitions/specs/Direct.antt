@@ -1,43 +1,46 @@
 -- 01, Meaning, and A batch: the direct run of a rule for one row. It goes by rounds and keeps all variables.
 use Prim.Native.Nat.{ℕ, zero, suc, _+_, _-_}
-use mathlib.Core.Bool.{cond}
+use mathlib.Core.Bool.{Bool, cond}
 use mathlib.Core.List.{List, [], _∷_, _++_}
 use lib.Dec.{eqb, ltb}
-use lib.IntN.{pos}
 use lib.ListN.{length, set, replicate}
-use Rattle.definitions.specs.Values.{Val, Out, value, fault, also, kindNumber}
+use Rattle.definitions.specs.Values.{Val, unset, Out, value, fault, also, kindNumber}
 use Rattle.definitions.specs.Rule.{Stmt, Set, Emit, End, Goto, Jump, Stop, If, Block, Rule, size, blockOf}
 use Rattle.definitions.specs.Meaning.{eval, holds}
 use Rattle.definitions.specs.declared.Flaw.{Flaw}
+use Rattle.definitions.specs.declared.Finish.{Finish}
 
--- ---- status numbers
+-- ---- how a row ends, or that it has not: its status
 
-abbrev pub unfinished : ℕ
-unfinished = 0
+abbrev pub unfinished : Finish
+unfinished = record { status = 0 }
 
-abbrev pub stopped : ℕ
-stopped = 1
+abbrev pub stopped : Finish
+stopped = record { status = 1 }
 
 -- a fault's status is its kind's number, 2 or 3
-abbrev pub faulted : Flaw → ℕ
-faulted f = kindNumber (f .kind)
+abbrev pub faulted : Flaw → Finish
+faulted f = record { status = kindNumber (f .kind) }
 
-abbrev pub quotaFull : ℕ
-quotaFull = 4
+abbrev pub quotaFull : Finish
+quotaFull = record { status = 4 }
+
+abbrev pub goesOn : Finish → Bool
+goesOn f = eqb (f .status) 0
 
 -- ---- inside a block
 
--- on the way through a block: the variables and the row's labels so far; or the row has ended, with its status and labels
+-- on the way through a block: the variables and the row's labels so far; or the row has ended, with its labels
 pub data Way : Type 0 where
   on : List Val → List Val → Way
-  ended : ℕ → List Val → Way
+  ended : Finish → List Val → Way
 
 abbrev pub onward : Way → (List Val → List Val → Way) → Way
 onward (on env ls) f = f env ls
-onward (ended st ls) f = ended st ls
+onward (ended how ls) f = ended how ls
 
 -- what is worked out, used where it is a value; a fault ends the row, and its labels stay
-abbrev pub with : {B : Type 0} → Out B → List Val → (B → Way) → Way
+abbrev pub with : {B : Type 0} → Out Flaw B → List Val → (B → Way) → Way
 with (value b) ls f = f b
 with (fault k) ls f = ended (faulted k) ls
 
@@ -60,7 +63,7 @@ pub data Exit : Type 0 where
   toRound : ℕ → Exit
   toStop : Exit
 
-unfoldable pub exit : End → List Val → Out Exit
+unfoldable pub exit : End → List Val → Out Flaw Exit
 exit (Goto t) env = value (toBlock t)
 exit (Jump t) env = value (toRound t)
 exit Stop env = value toStop
@@ -71,10 +74,10 @@ exit (If c x y) env = also (holds c env) (λ h. cond h (exit x env) (exit y env)
 -- what a round comes to: a jump asks for the next round at a block, or the row has ended
 pub data Round : Type 0 where
   jumped : ℕ → List Val → List Val → Round
-  finished : ℕ → List Val → Round
+  finished : Finish → List Val → Round
 
 -- a block's ending, after its statements: W goes on at another block, in the same round
-abbrev pub leave : Out Exit → List Val → List Val → (ℕ → Round) → Round
+abbrev pub leave : Out Flaw Exit → List Val → List Val → (ℕ → Round) → Round
 leave (value (toBlock t)) env ls W = W t
 leave (value (toRound t)) env ls W = jumped t env ls
 leave (value toStop) env ls W = finished stopped ls
@@ -82,7 +85,7 @@ leave (fault k) env ls W = finished (faulted k) ls
 
 abbrev pub through : Way → End → (ℕ → List Val → List Val → Round) → Round
 through (on env ls) e W = leave (exit e env) env ls (λ t. W t env ls)
-through (ended st ls) e W = finished st ls
+through (ended how ls) e W = finished how ls
 
 -- from block b on. The first number bounds how many blocks a round enters: gotos only rise, so the number of blocks is enough
 unfoldable pub walk : ℕ → Rule → ℕ → ℕ → List Val → List Val → Round
@@ -92,24 +95,24 @@ walk (suc f) r q b env ls = through (steps q (blockOf r b .body) env ls) (blockO
 -- ---- a row
 
 pub record State : Type 0 where
-  pub status : ℕ
+  pub finish : Finish
   pub begun : ℕ  -- rounds
   pub labels : List Val
   pub block : ℕ  -- where the next round starts
   pub vars : List Val
 
--- the arguments, and all other variables at 0; round 1 starts at the entry
+-- the arguments, and all other variables unset; round 1 starts at the entry
 abbrev pub start : Rule → List Val → State
-start r args = record { status = unfinished; begun = 0; labels = []; block = 0; vars = args ++ replicate (r .variables - length args) (pos 0) }
+start r args = record { finish = unfinished; begun = 0; labels = []; block = 0; vars = args ++ replicate (r .variables - length args) unset }
 
 -- the state after the round that it asked for; a row that ended keeps the block and the variables it had
 abbrev pub joined : State → Round → State
-joined s (jumped b env ls) = record { status = unfinished; begun = s .begun + 1; labels = ls; block = b; vars = env }
-joined s (finished st ls) = record { status = st; begun = s .begun + 1; labels = ls; block = s .block; vars = s .vars }
+joined s (jumped b env ls) = record { finish = unfinished; begun = s .begun + 1; labels = ls; block = b; vars = env }
+joined s (finished how ls) = record { finish = how; begun = s .begun + 1; labels = ls; block = s .block; vars = s .vars }
 
 -- one round under quota q; a finished row stays as it is
 unfoldable pub advance : Rule → ℕ → State → State
-advance r q s = cond (eqb (s .status) unfinished) (joined s (walk (size r) r q (s .block) (s .vars) (s .labels))) s
+advance r q s = cond (goesOn (s .finish)) (joined s (walk (size r) r q (s .block) (s .vars) (s .labels))) s
 
 -- with budget N, N rounds may begin
 unfoldable pub after : Rule → ℕ → ℕ → State → State

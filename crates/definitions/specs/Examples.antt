@@ -4,18 +4,18 @@ use Prim.{Unit, tt}
 use native.Mathlib.Numerals.{add-one}
 use mathlib.Core.Path.{_≡_, refl, ap}
 use mathlib.Core.List.{List, [], _∷_}
-use lib.IntN.{pos, negℤ}
+use lib.IntN.{ℤ, pos, negℤ}
 use lib.ListN.{length, take, drop}
-use Rattle.definitions.specs.Values.{Val, Out, value, fault, flaw, kindNumber, least, settled, product, quotient, remainder}
+use Rattle.definitions.specs.Values.{Word, number, unset, Out, value, fault, kindNumber, settled, product, quotient, remainder}
 use Rattle.definitions.specs.Rule.{Add, Subtract, Less, Const, Var, Op, Compare, Set, Emit, Goto, Jump, Stop, If, Block, Rule}
 use Rattle.definitions.specs.Grammar.{Got, got, refused, then, twos, exprAt, endAt, blockFrom, blocksTo, headed, ruleOf}
 use Rattle.definitions.specs.Spelling.{constantBytes, exprBytes, stmtBytes, endBytes, inTurn, blockBytes, bytesOf}
 use Rattle.definitions.specs.Meaning.{eval}
-use Rattle.definitions.specs.Direct.{State, step, steps, exit, walk, start, advance, after}
+use Rattle.definitions.specs.Direct.{State, unfinished, step, steps, exit, walk, start, advance, after}
 use Rattle.definitions.specs.Columns.{some, reads, endLooks, readFirst, sets, goesTo, jumpsTo, outputs, from, grown, growths, closure, inputsOf}
 use Rattle.definitions.specs.Plan.{maskOf, entryOf, entriesTo, planOf, same, planned}
 use Rattle.definitions.specs.Pages.{wordSum, checkOf, pageBody, pageOf, pagesTo, fileOf, allZero, lengthOk, pageAt, payloadTo, unpacked}
-use Rattle.definitions.specs.Batch.{Word, startsOf, recordsOf, countTo, columnsOf, linesFrom, liveOf, mostOf}
+use Rattle.definitions.specs.Batch.{startsOf, recordsOf, countTo, columnsOf, linesFrom, liveOf, mostOf}
 use Rattle.definitions.specs.Calls.{Batch, refusal, toCompile, toWrite, ranReply, runReply, recordsIn, tableIn}
 use Rattle.definitions.specs.declared.Reply.{Reply}
 use Rattle.definitions.specs.declared.Reply.the-variants.{Done}
@@ -34,6 +34,7 @@ R =
 -- its tree
 abbrev treeR : Rule
 treeR = record {
+  form = 1;
   variables = 2;
   arguments = 1;
   blocks =
@@ -90,9 +91,9 @@ abbrev pub smallest : List ℕ
 smallest = 0x01 ∷ 0x01 ∷ 0x00 ∷ 0x01 ∷ 0x32 ∷ []
 
 abbrev endless : Rule
-endless = record { variables = 1; arguments = 0; blocks = record { body = []; ending = Jump 0 } ∷ [] }
+endless = record { form = 1; variables = 1; arguments = 0; blocks = record { body = []; ending = Jump 0 } ∷ [] }
 
-abbrev pub minus : ℕ → Val
+abbrev pub minus : ℕ → ℤ
 minus n = negℤ (pos n)
 
 -- ---- the table
@@ -112,18 +113,18 @@ examples =
     -- E6: -7 by 2
     ∷ ((quotient (minus 7) (pos 2) ≡ value (minus 3)) × (remainder (minus 7) (pos 2) ≡ value (minus 1)))
     -- E7: the least value by -1
-    ∷ ((quotient (minus 2147483648) (minus 1) ≡ fault (flaw OutOfRange)) × (remainder (minus 2147483648) (minus 1) ≡ value (pos 0)) × (kindNumber OutOfRange ≡ 3))
+    ∷ ((quotient (minus 2147483648) (minus 1) ≡ fault OutOfRange) × (remainder (minus 2147483648) (minus 1) ≡ value (pos 0)) × (kindNumber OutOfRange ≡ 3))
     -- E8: 46340 and 46341 squared
-    ∷ ((product (pos 46340) (pos 46340) ≡ value (pos 2147395600)) × (product (pos 46341) (pos 46341) ≡ fault (flaw OutOfRange)))
+    ∷ ((product (pos 46340) (pos 46340) ≡ value (pos 2147395600)) × (product (pos 46341) (pos 46341) ≡ fault OutOfRange))
     -- E9: a guarded division by 0 does not fault
-    ∷ (then (exprAt 8 0 guarded 0) (λ e n. got (eval e []) n) ≡ got (value (pos 5)) 28)
+    ∷ (then (exprAt 8 0 guarded 0) (λ e n. got (eval e []) n) ≡ got (value (number (pos 5))) 28)
     -- E10: with quota 0 the fault of an emit's expression comes first
     ∷ (ran (record { plan = emitsFaultPlan; rows = 1; values = []; budget = 1; quota = 0 }) ≡ (Done 1, (words (2 ∷ 1 ∷ 0 ∷ []), words (0 ∷ 0 ∷ []))))
     -- E11: the smallest rule, and without its last byte
     ∷ ((length smallest ≡ 5) × (then (ruleOf smallest) (λ r n. got n n) ≡ got 5 5) × (toWrite (take 4 smallest) ≡ refused 9 4))
     -- E12: a goto to its own block; with a jump it is accepted, and unfinished under every budget
     ∷ ((ruleOf (0x01 ∷ 0x01 ∷ 0x00 ∷ 0x01 ∷ 0x30 ∷ 0x00 ∷ []) ≡ refused 7 5) × (ruleOf (0x01 ∷ 0x01 ∷ 0x00 ∷ 0x01 ∷ 0x31 ∷ 0x00 ∷ []) ≡ got endless 6)
-    × ((q n : ℕ) → after endless q n (start endless []) .status ≡ 0))
+    × ((q n : ℕ) → after endless q n (start endless []) .finish .status ≡ 0))
     ∷ []
 
 -- ---- the claims
@@ -133,10 +134,10 @@ All [] = Unit {0}
 All (claim ∷ claims) = claim × All claims
 
 -- after n rounds the endless rule has begun n, and stands where it stood
-endless-after : (q n : ℕ) → after endless q n (start endless []) ≡ record { status = 0; begun = n; labels = []; block = 0; vars = pos 0 ∷ [] }
+endless-after : (q n : ℕ) → after endless q n (start endless []) ≡ record { finish = unfinished; begun = n; labels = []; block = 0; vars = unset ∷ [] }
 unfolding after advance walk exit steps
 endless-after q zero = refl
-endless-after q (suc n) = rw (endless-after q n) (ap (λ k. record { status = 0; begun = k; labels = []; block = 0; vars = pos 0 ∷ [] }) (add-one n))
+endless-after q (suc n) = rw (endless-after q n) (ap (λ k. record { finish = unfinished; begun = k; labels = []; block = 0; vars = unset ∷ [] }) (add-one n))
 
 pub examples-hold : All examples
 unfolding examples settled quotient remainder twos exprAt endAt blockFrom blocksTo headed ruleOf eval step steps exit walk advance after
@@ -144,7 +145,7 @@ unfolding examples settled quotient remainder twos exprAt endAt blockFrom blocks
     wordSum checkOf pageBody pageOf pagesTo fileOf startsOf recordsOf countTo columnsOf linesFrom liveOf mostOf
     toWrite ranReply runReply recordsIn tableIn
 examples-hold =
-    ((refl, refl), ((refl, refl), (refl, (refl, (refl, ((refl, refl), ((refl, refl, refl), ((refl, refl), (refl, (refl, ((refl, refl, refl), ((refl, refl, λ q n. ap (λ s. s .status) (endless-after q n)), tt))))))))))))
+    ((refl, refl), ((refl, refl), (refl, (refl, (refl, ((refl, refl), ((refl, refl, refl), ((refl, refl), (refl, (refl, ((refl, refl, refl), ((refl, refl, λ q n. ap (λ s. s .finish .status) (endless-after q n)), tt))))))))))))
 
 -- R is read as its tree, and the tree is written as R; a constant below 0 is written in two's complement
 pub written : ((ruleOf R ≡ got treeR 45) × (bytesOf treeR ≡ R)) × ((constantBytes (minus 1) ≡ 0xFF ∷ 0xFF ∷ 0xFF ∷ 0xFF ∷ []) × (constantBytes (minus 2147483648) ≡ 0 ∷ 0 ∷ 0 ∷ 0x80 ∷ []))

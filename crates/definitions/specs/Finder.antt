@@ -6,7 +6,8 @@ use lib.Dec.{leb, ltb, eqb}
 use lib.IntN.{pos, negsuc}
 use lib.ListN.{length, take, drop, getD}
 use denote.Ref.{RefT}
-use Rattle.definitions.specs.Batch.{Word, recordSize, lineSize}
+use Rattle.definitions.specs.Values.{Word}
+use Rattle.definitions.specs.Batch.{recordSize, lineSize}
 
 -- a slice's place in memory, a block and an offset in bytes, and its words
 abbrev pub Part : Type 0

@@ -178,13 +178,13 @@ abbrev pub levels : ℕ
 levels = 4
 
 -- a block with one more statement before its others
-abbrev pub after : Stmt → Block → Block
-after x b = record { body = x ∷ b .body; ending = b .ending }
+abbrev pub withFirst : Stmt → Block → Block
+withFirst x b = record { body = x ∷ b .body; ending = b .ending }
 
 -- a block goes on while the tag is a statement's; what else stands there has to be its ending
 abbrev pub blockBody : StmtTag → Targets → ℕ → List ℕ → (ℕ → Got Block) → ℕ → Got Block
-blockBody setTag ts v s B at = then (setAt v s (at + 1)) (λ x m. one (after x) B m)
-blockBody emitTag ts v s B at = then (emitAt v s (at + 1)) (λ x m. one (after x) B m)
+blockBody setTag ts v s B at = then (setAt v s (at + 1)) (λ x m. one (withFirst x) B m)
+blockBody emitTag ts v s B at = then (emitAt v s (at + 1)) (λ x m. one (withFirst x) B m)
 blockBody noStmt ts v s B at = one (λ e. record { body = []; ending = e }) (endAt levels ts v s) at
 
 -- the block at a place. The first number bounds how many statements are read: each takes a byte, so the rule's length is enough
@@ -237,7 +237,7 @@ headed s rest =
 
 -- the whole of the bytes; 10 at the first byte after the last block
 abbrev pub wholeRule : List ℕ → List Block → ℕ → Got Rule
-wholeRule s bs n = cond (ltb n (length s)) (refused 10 n) (got (record { variables = variablesIn s; arguments = argumentsIn s; blocks = bs }) n)
+wholeRule s bs n = cond (ltb n (length s)) (refused 10 n) (got (record { form = formIn s; variables = variablesIn s; arguments = argumentsIn s; blocks = bs }) n)
 
 unfoldable pub ruleOf : List ℕ → Got Rule
 ruleOf s = headed s (then (blocksTo (blocksIn s) (variablesIn s) s (blocksIn s)) (wholeRule s))

@@ -3,7 +3,8 @@ use Prim.Native.Nat.{ℕ, _+_, _≤_, _<_, max}
 use mathlib.Core.Path.{_≡_}
 use mathlib.Core.Bool.{true}
 use mathlib.Core.List.{List, [], _∷_}
-use Rattle.definitions.specs.Values.{Val, value, settled}
+use lib.IntN.{ℤ}
+use Rattle.definitions.specs.Values.{value, settled}
 use Rattle.definitions.specs.Rule.{Expr, Cond, Const, Var, Neg, Op, Case, Compare, Not, Join, Stmt, Set, Emit, End, Goto, Jump, Stop, If, Block, Rule, size, blockOf}
 use Rattle.definitions.specs.Grammar.{depth, levels, mostVariables, mostBlocks}
 use Rattle.definitions.specs.Columns.{goesTo}
@@ -33,7 +34,7 @@ endDepth (If c x y) = 1 + max (endDepth x) (endDepth y)
 -- ---- constants lie in the range of values, and variables are among the v of the rule
 
 -- the test of the range gives it back
-abbrev pub InRange : Val → Type 0
+abbrev pub InRange : ℤ → Type 0
 InRange z = settled z ≡ value z
 
 unfoldable mutual
@@ -75,6 +76,7 @@ pub record BlockKeeps (n v : ℕ) (b : Block) : Type 0 where
 -- ---- a rule
 
 pub record Limits (r : Rule) : Type 0 where
+  pub form-is : r .form ≡ 1
   pub variables-from : 1 ≤ r .variables
   pub variables-to : r .variables ≤ mostVariables
   pub arguments-to : r .arguments ≤ r .variables

@@ -5,7 +5,7 @@ use mathlib.Core.List.{List, [], _∷_, _++_}
 use lib.Dec.{eqb, leb}
 use lib.ListN.{length, take, drop, getD}
 use Rattle.definitions.specs.Rule.{Rule, Block, size}
-use Rattle.definitions.specs.Grammar.{Got, got, refused, blocksTo, ruleOf, longest}
+use Rattle.definitions.specs.Grammar.{Got, got, refused, blocksTo, ruleOf, longest, mostBlocks}
 use Rattle.definitions.specs.Columns.{flowOf, J, inputsOf, outputsOf, LC}
 
 -- sixteen bits as two bytes, the lower first
@@ -57,6 +57,10 @@ planOf r s = take 4 s ++ (le16 (maskOf (r .variables) (LC (flowOf r))) ++ (entri
 -- its size, for a rule of L bytes and n blocks
 abbrev pub planSize : ℕ → ℕ → ℕ
 planSize n L = headSize n + L - 4
+
+-- and the longest plan's
+abbrev pub longestPlan : ℕ
+longestPlan = planSize mostBlocks longest
 
 -- ---- which bytes are a plan
 

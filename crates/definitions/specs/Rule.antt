@@ -1,8 +1,8 @@
 -- 01, The rule, byte by byte: what a rule is, as a tree. Operators of a kind share a constructor. The tree holds no places.
 use Prim.Native.Nat.{ℕ}
 use mathlib.Core.List.{List, [], _∷_}
+use lib.IntN.{ℤ}
 use lib.ListN.{length, getD}
-use Rattle.definitions.specs.Values.{Val}
 
 -- tags 04 to 08
 pub data Operator : Type 0 where
@@ -19,7 +19,7 @@ pub data Joint : Type 0 where
 -- tags 01 to 09, and 10 to 14: expressions hold conditions and conditions hold expressions
 mutual
   pub data Expr : Type 0 where
-    Const : Val → Expr
+    Const : ℤ → Expr
     Var : ℕ → Expr
     Neg : Expr → Expr
     Op : Operator → Expr → Expr → Expr
@@ -47,8 +47,9 @@ pub record Block : Type 0 where
   pub body : List Stmt
   pub ending : End
 
--- a rule: how many variables, how many of them arguments, and the blocks, of which the first is the entry
+-- a rule: its form, how many variables, how many of them arguments, and the blocks, of which the first is the entry
 pub record Rule : Type 0 where
+  pub form : ℕ
   pub variables : ℕ
   pub arguments : ℕ
   pub blocks : List Block

@@ -2,7 +2,6 @@
 use Prim.Native.Nat.{ℕ, _+_, _-_, _/_, _%_}
 use mathlib.Core.List.{List, [], _∷_, _++_}
 use lib.IntN.{ℤ, pos, negsuc}
-use Rattle.definitions.specs.Values.{Val}
 use Rattle.definitions.specs.Rule.{Operator, Add, Subtract, Multiply, Divide, Remainder, Relation, Less, Equal, Joint, And, Or}
 use Rattle.definitions.specs.Rule.{Expr, Cond, Const, Var, Neg, Op, Case, Compare, Not, Join, Stmt, Set, Emit, End, Goto, Jump, Stop, If, Block, Rule, size}
 
@@ -17,7 +16,7 @@ unsigned (negsuc n) = 4294967296 - (n + 1)
 abbrev pub le32 : ℕ → List ℕ
 le32 n = n % 256 ∷ n / 256 % 256 ∷ n / 65536 % 256 ∷ n / 16777216 ∷ []
 
-abbrev pub constantBytes : Val → List ℕ
+abbrev pub constantBytes : ℤ → List ℕ
 constantBytes z = le32 (unsigned z)
 
 -- ---- the tags of operators, relations and joints
@@ -73,6 +72,6 @@ inTurn bytes (x ∷ xs) = bytes x ++ inTurn bytes xs
 unfoldable pub blockBytes : Block → List ℕ
 blockBytes b = inTurn stmtBytes (b .body) ++ endBytes (b .ending)
 
--- the header (form 1, v, a, n), then the blocks
+-- the header (form, v, a, n), then the blocks
 unfoldable pub bytesOf : Rule → List ℕ
-bytesOf r = 0x01 ∷ r .variables ∷ r .arguments ∷ size r ∷ inTurn blockBytes (r .blocks)
+bytesOf r = r .form ∷ r .variables ∷ r .arguments ∷ size r ∷ inTurn blockBytes (r .blocks)

@@ -1,6 +1,8 @@
 // The answers of the calls, and the limits. What each case stands for is said in specs/.
 ghost use mathlib.Core.Path.{_≡_};
+ghost use Rattle.definitions.specs.Values.{kindNumber};
 ghost use Rattle.definitions.specs.Grammar.{misread};
+ghost use Rattle.definitions.specs.Direct.{unfinished, stopped, faulted, quotaFull, goesOn};
 ghost use Rattle.definitions.specs.Calls.{refusal};
 
 // The most bytes that a rule has, and a plan.
@@ -36,10 +38,15 @@ pub struct Flaw {
     pub kind: Kind,
 }
 
-// What an operator or an expression comes to.
+// What an operator comes to.
 pub enum Outcome {
     Value(i32),
-    Fault(Flaw),
+    Fault(Kind),
+}
+
+// How a row ended, or that it has not.
+pub struct Finish {
+    pub status: u8,
 }
 
 // Why and where bad input is refused.
@@ -72,6 +79,52 @@ pub enum Place {
     InWork(usize),
     Nowhere,
 }
+
+// ---- the ends of a row
+
+pub fn unfinished() -> Finish
+    ensures { λ r. ⌜ r ≡ unfinished ⌝ }
+{
+    Finish { status: 0 }
+}
+
+pub fn stopped() -> Finish
+    ensures { λ r. ⌜ r ≡ stopped ⌝ }
+{
+    Finish { status: 1 }
+}
+
+fn kind_number(k: Kind) -> u8
+    ensures { λ r. ⌜ r ≡ kindNumber k ⌝ }
+{
+    match k {
+        Kind::ZeroDivisor => 2,
+        Kind::OutOfRange => 3,
+    }
+}
+
+pub fn faulted(f: Flaw) -> Finish
+    ensures { λ r. ⌜ r ≡ faulted f ⌝ }
+{
+    let k = f.kind;
+    let status = kind_number(k);
+    Finish { status }
+}
+
+pub fn quota_full() -> Finish
+    ensures { λ r. ⌜ r ≡ quotaFull ⌝ }
+{
+    Finish { status: 4 }
+}
+
+// Whether a row that ends so goes on.
+pub fn goes_on(f: Finish) -> bool
+    ensures { λ r. ⌜ r ≡ goesOn f ⌝ }
+{
+    f.status == 0
+}
+
+// ---- refusals
 
 // The refusal of a call.
 pub fn refuse(number: u8, place: usize) -> Reply

@@ -10,7 +10,8 @@ use lib.Dec.{eqb, leb}
 use denote.Ref.{RefT}
 use mathlib.Core.Logic.{⊎-elim}
 use borrow.Author.Tests.{eqb-true, eqb-false, eq-eqb, leb-true, lt-ltb, le-leb}
-use Rattle.definitions.specs.Batch.{Word, recordSize, lineSize}
+use Rattle.definitions.specs.Values.{Word}
+use Rattle.definitions.specs.Batch.{recordSize, lineSize}
 use Rattle.definitions.specs.Finder.{isNumber, Part, isLine, lineIndex, foundIn, mostRows, mostQuota, mostColumns}
 use Rattle.definitions.proofs.Tests.{and-parts, and-both, clash, not-so, less-or}
 use Rattle.finder.specs.Limits.{within}

@@ -13,7 +13,8 @@ use mir.Val.{ofZ, toZ}
 use mir.Facts.{toZ-ofZ}
 use denote.Ref.{RefT}
 use borrow.Author.Tests.{ne-eqb, leb-true, ltb-true, lt-ltb, le-ltb, le-leb, lt-leb}
-use Rattle.definitions.specs.Batch.{Word, recordSize, lineSize}
+use Rattle.definitions.specs.Values.{Word}
+use Rattle.definitions.specs.Batch.{recordSize, lineSize}
 use Rattle.definitions.specs.Finder.{isNumber, Part, partOf, isLine, lineIndex, linePart, foundIn, mostRows, mostQuota, mostColumns}
 use Rattle.definitions.proofs.Tests.{and-parts}
 use Rattle.layouts.proofs.Sizes.{item-in, records-low}

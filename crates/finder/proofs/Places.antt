@@ -10,7 +10,8 @@ use lib.IntN.{pos}
 use lib.ListN.{length, getD}
 use denote.Ref.{RefT}
 use borrow.Author.Tests.{lt-ltb, le-ltb, ltb-true}
-use Rattle.definitions.specs.Batch.{Word, recordSize, lineSize}
+use Rattle.definitions.specs.Values.{Word}
+use Rattle.definitions.specs.Batch.{recordSize, lineSize}
 use Rattle.definitions.specs.Finder.{partOf, isNumber, lineIndex, linePart, foundIn, mostRows, mostQuota, mostColumns}
 use Rattle.definitions.specs.declared.Place.{Place}
 use Rattle.definitions.specs.declared.Place.the-variants.{InResult, InWork, Nowhere}

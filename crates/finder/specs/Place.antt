@@ -6,7 +6,8 @@ use lib.Dec.{ltb}
 use lib.IntN.{pos}
 use lib.ListN.{length, getD}
 use denote.Ref.{RefT}
-use Rattle.definitions.specs.Batch.{Word, recordSize, lineSize}
+use Rattle.definitions.specs.Values.{Word}
+use Rattle.definitions.specs.Batch.{recordSize, lineSize}
 use Rattle.definitions.specs.Finder.{Part, partOf, isNumber, lineIndex}
 use Rattle.definitions.specs.declared.Place.{Place}
 use Rattle.definitions.specs.declared.Place.the-variants.{InResult, InWork, Nowhere}

@@ -12,15 +12,15 @@ use Rattle.definitions.specs.declared.Targets.{Targets}
 use Rattle.definitions.specs.Grammar.{Got, got, refused, then, byteAt, one, two, constantAt, constantIn, variableAt, targetAt, mayGoto, mayJump}
 use Rattle.definitions.specs.Grammar.{ExprTag, constTag, varTag, negTag, caseTag, badExpr, opTag, exprTag, CondTag, notTag, badCond, compareTag, joinTag, condTag}
 use Rattle.definitions.specs.Grammar.{StmtTag, setTag, emitTag, noStmt, stmtTag, EndTag, gotoTag, jumpTag, stopTag, ifTag, badEnd, endTag}
-use Rattle.definitions.specs.Grammar.{exprBody, condBody, exprAt, condAt, depth, setAt, emitAt, endBody, endAt, levels, after, blockBody, blockFrom, blockAt}
-use Rattle.flows.specs.Marks.{Mark, carries, width, markOf}
+use Rattle.definitions.specs.Grammar.{exprBody, condBody, exprAt, condAt, depth, setAt, emitAt, endBody, endAt, levels, withFirst, blockBody, blockFrom, blockAt}
+use Rattle.flows.specs.Marks.{Mark, carries, tagWidth, markOf}
 use Rattle.flows.proofs.Spans.{either, Spans, joined, tag-spans}
 use Rattle.flows.proofs.Trees.{exprMarks, condMarks, endMarks, stmtMarks, bodyMarks, blockMarks}
 
 -- ---- which byte each tag is, as far as it counts
 
 abbrev Plain : ℕ → Type 0
-Plain t = (width t ≡ 1) × ((x : ℕ) → markOf t x ≡ [])
+Plain t = (tagWidth t ≡ 1) × ((x : ℕ) → markOf t x ≡ [])
 
 abbrev ExprByte : ExprTag → ℕ → Type 0
 ExprByte constTag t = t ≡ 0x01
@@ -49,7 +49,7 @@ EndByte ifTag t = t ≡ 0x33
 EndByte badEnd t = Unit {0}
 
 expr-byte : (t : ℕ) → ExprByte (exprTag t) t
-unfolding width carries markOf
+unfolding tagWidth carries markOf
 expr-byte t =
     either P t 0x01 refl λ n1.
     either P t 0x02 refl λ n2.
@@ -66,7 +66,7 @@ expr-byte t =
     P u = ExprByte (exprTag u) u
 
 cond-byte : (t : ℕ) → CondByte (condTag t) t
-unfolding width carries markOf
+unfolding tagWidth carries markOf
 cond-byte t =
     either P t 0x10 (refl, λ x. refl) λ n0.
     either P t 0x11 (refl, λ x. refl) λ n1.
@@ -133,7 +133,7 @@ module _ (s : List ℕ) (at : ℕ) where
   plain t e h p = rw (← p .1 (getD s (at + 1) 0)) (tag-spans s at t 1 e (p .0) (omega arith))
 
   -- a tag and its operand, which has to pass a test
-  operand : (t number : ℕ) (allowed : ℕ → Bool) → getD s at 0 ≡ t → width t ≡ 2 → Spanned s (markOf t) at (then (byteAt s (at + 1)) (λ k n. cond (allowed k) (got k n) (refused number (at + 1))))
+  operand : (t number : ℕ) (allowed : ℕ → Bool) → getD s at 0 ≡ t → tagWidth t ≡ 2 → Spanned s (markOf t) at (then (byteAt s (at + 1)) (λ k n. cond (allowed k) (got k n) (refused number (at + 1))))
   operand t number allowed e w = go (ltb (at + 1) (length s)) refl
     where
       tested : (k n : ℕ) (b : Bool) → Spans s at n (markOf t k) → Spanned s (markOf t) at (cond b (got k n) (refused number (at + 1)))
@@ -148,7 +148,7 @@ module _ (s : List ℕ) (at : ℕ) where
       go false q = tt
 
   constant : getD s at 0 ≡ 0x01 → Spanned s exprMarks at (one Const (constantAt s) (at + 1))
-  unfolding exprMarks width markOf carries
+  unfolding exprMarks tagWidth markOf carries
   constant e = go (leb (at + 1 + 4) (length s)) refl
     where
       go : (b : Bool) → leb (at + 1 + 4) (length s) ≡ b → Spanned s exprMarks at (then (cond b (got (constantIn s (at + 1)) (at + 1 + 4)) (refused 9 (length s))) (λ a n. got (Const a) n))
@@ -161,7 +161,7 @@ module _ (s : List ℕ) (at : ℕ) where
 -- ---- expressions and conditions
 module _ (v : ℕ) (s : List ℕ) (E : ℕ → Got Expr) (C : ℕ → Got Cond) (hE : (n : ℕ) → Spanned s exprMarks n (E n)) (hC : (n : ℕ) → Spanned s condMarks n (C n)) (at : ℕ) (here : at < length s) where
   expr-body : (t : ExprTag) → ExprByte t (getD s at 0) → Spanned s exprMarks at (exprBody t v s E C at)
-  unfolding exprMarks width markOf carries
+  unfolding exprMarks tagWidth markOf carries
   expr-body constTag e = constant s at e
   expr-body varTag e = next s at (markOf 0x02) exprMarks (variableAt v s (at + 1)) (λ k n. got (Var k) n) (operand s at 0x02 6 (λ k. ltb k v) e refl) (λ k n w. w)
   expr-body negTag p = one-more s at exprMarks exprMarks (at + 1) [] Neg (plain s at (getD s at 0) refl here p) (λ a. refl) (E (at + 1)) (hE (at + 1))
@@ -204,7 +204,7 @@ mutual
 -- ---- endings
 module _ (ts : Targets) (v : ℕ) (s : List ℕ) (E : ℕ → Got End) (hE : (m : ℕ) → Spanned s endMarks m (E m)) (at : ℕ) (here : at < length s) where
   end-body : (t : EndTag) → EndByte t (getD s at 0) → Spanned s endMarks at (endBody t ts v s E at)
-  unfolding endMarks width markOf carries
+  unfolding endMarks tagWidth markOf carries
   end-body gotoTag e = next s at (markOf 0x30) endMarks (targetAt (mayGoto ts) s (at + 1)) (λ t m. got (Goto t) m) (operand s at 0x30 7 (mayGoto ts) e refl) (λ t m w. w)
   end-body jumpTag e = next s at (markOf 0x31) endMarks (targetAt (mayJump ts) s (at + 1)) (λ t m. got (Jump t) m) (operand s at 0x31 7 (mayJump ts) e refl) (λ t m w. w)
   end-body stopTag e = tag-spans s at 0x32 1 e refl (omega arith)
@@ -223,21 +223,21 @@ end-spanned (suc d) ts v s at = tagged s endMarks at (λ t. endBody (endTag t) t
 -- ---- statements and blocks
 module _ (v : ℕ) (s : List ℕ) (at : ℕ) where
   set-spanned : getD s at 0 ≡ 0x20 → Spanned s stmtMarks at (setAt v s (at + 1))
-  unfolding stmtMarks width markOf carries
+  unfolding stmtMarks tagWidth markOf carries
   set-spanned e =
       next s at (markOf 0x20) stmtMarks (variableAt v s (at + 1)) (λ x n. one (Set x) (exprAt depth v s) n) (operand s at 0x20 6 (λ k. ltb k v) e refl)
       (λ x n w. one-more s at exprMarks stmtMarks n ((0x20, x) ∷ []) (Set x) w (λ a. refl) (exprAt depth v s n) (expr-spanned depth v s n))
 
   emit-spanned : getD s at 0 ≡ 0x21 → Spanned s stmtMarks at (emitAt v s (at + 1))
-  unfolding stmtMarks width markOf carries
+  unfolding stmtMarks tagWidth markOf carries
   emit-spanned e =
       let here = there s at 0x20 e in
       one-more s at exprMarks stmtMarks (at + 1) ((0x21, 0) ∷ []) Emit (tag-spans s at 0x21 1 e refl (omega arith)) (λ a. refl) (exprAt depth v s (at + 1)) (expr-spanned depth v s (at + 1))
 
 module _ (ts : Targets) (v : ℕ) (s : List ℕ) (B : ℕ → Got Block) (hB : (m : ℕ) → Spanned s blockMarks m (B m)) (at : ℕ) where
-  one-stmt : (p : Got Stmt) → Spanned s stmtMarks at p → Spanned s blockMarks at (then p (λ x m. one (after x) B m))
+  one-stmt : (p : Got Stmt) → Spanned s stmtMarks at p → Spanned s blockMarks at (then p (λ x m. one (withFirst x) B m))
   unfolding bodyMarks
-  one-stmt p w = next s at stmtMarks blockMarks p (λ x m. one (after x) B m) w (λ x m h. one-more s at blockMarks blockMarks m (stmtMarks x) (after x) h (λ k. refl) (B m) (hB m))
+  one-stmt p w = next s at stmtMarks blockMarks p (λ x m. one (withFirst x) B m) w (λ x m h. one-more s at blockMarks blockMarks m (stmtMarks x) (withFirst x) h (λ k. refl) (B m) (hB m))
 
   block-body : (t : StmtTag) → StmtByte t (getD s at 0) → Spanned s blockMarks at (blockBody t ts v s B at)
   unfolding bodyMarks

@@ -7,7 +7,7 @@ use mathlib.Core.List.{List, [], _++_, append-assoc, append-nil}
 use lib.Dec.{eqb}
 use lib.ListN.{length, getD}
 use borrow.Author.Tests.{lt-ltb, le-ltb, eqb-true, eqb-false}
-use Rattle.flows.specs.Marks.{Mark, carries, width, markOf, marksFor, marksIn}
+use Rattle.flows.specs.Marks.{Mark, carries, tagWidth, markOf, marksFor, marksIn}
 
 -- a byte is this one, or another
 pub either : (P : ℕ → Type 0) (t c : ℕ) → P c → ((t ≡ c → ⊥) → P t) → P t
@@ -19,9 +19,9 @@ either P t c p f = go (eqb t c) refl
 
 -- ---- one tag after the other
 
-pub width-bounds : (t : ℕ) → (1 ≤ width t) × (width t ≤ 5)
-unfolding width
-width-bounds t = go (eqb t 0x01) (carries t)
+pub tagWidth-bounds : (t : ℕ) → (1 ≤ tagWidth t) × (tagWidth t ≤ 5)
+unfolding tagWidth
+tagWidth-bounds t = go (eqb t 0x01) (carries t)
   where
     go : (a b : Bool) → (1 ≤ cond a 5 (cond b 2 1)) × (cond a 5 (cond b 2 1) ≤ 5)
     go true b = omega arith
@@ -35,15 +35,15 @@ enough zero zero s at to h k = refl
 enough zero (suc g) s at to h k = rw (le-ltb at to (omega arith))
 enough (suc f) zero s at to h k = rw (le-ltb at to (omega arith))
 enough (suc f) (suc g) s at to h k =
-    let w = width-bounds (getD s at 0) in
-    rw (enough f g s (at + width (getD s at 0)) to (omega arith) (omega arith))
+    let w = tagWidth-bounds (getD s at 0) in
+    rw (enough f g s (at + tagWidth (getD s at 0)) to (omega arith) (omega arith))
 
-pub marks-more : (s : List ℕ) (at to : ℕ) → at < to → marksIn s at to ≡ markOf (getD s at 0) (getD s (at + 1) 0) ++ marksIn s (at + width (getD s at 0)) to
+pub marks-more : (s : List ℕ) (at to : ℕ) → at < to → marksIn s at to ≡ markOf (getD s at 0) (getD s (at + 1) 0) ++ marksIn s (at + tagWidth (getD s at 0)) to
 unfolding marksFor
 marks-more s at zero h = absurd (omega arith)
 marks-more s at (suc n) h =
-    let w = width-bounds (getD s at 0) in
-    rw (lt-ltb at (suc n) h) (ap (λ (ms : List Mark). markOf (getD s at 0) (getD s (at + 1) 0) ++ ms) (enough n (suc n) s (at + width (getD s at 0)) (suc n) (omega arith) (omega arith)))
+    let w = tagWidth-bounds (getD s at 0) in
+    rw (lt-ltb at (suc n) h) (ap (λ (ms : List Mark). markOf (getD s at 0) (getD s (at + 1) 0) ++ ms) (enough n (suc n) s (at + tagWidth (getD s at 0)) (suc n) (omega arith) (omega arith)))
 
 pub marks-none : (s : List ℕ) (at to : ℕ) → to ≤ at → marksIn s at to ≡ []
 unfolding marksFor
@@ -69,9 +69,9 @@ module _ (s : List ℕ) (at : ℕ) where
   all n ms a = a .splits n (omega arith) ∙ rw (marks-none s n n (omega arith)) (append-nil ms)
 
   -- a tag with its operand or constant
-  pub tag-spans : (t w : ℕ) → getD s at 0 ≡ t → width t ≡ w → at + w ≤ length s → Spans s at (at + w) (markOf t (getD s (at + 1) 0))
+  pub tag-spans : (t w : ℕ) → getD s at 0 ≡ t → tagWidth t ≡ w → at + w ≤ length s → Spans s at (at + w) (markOf t (getD s (at + 1) 0))
   tag-spans t w e f h =
-      let p = width-bounds t in
+      let p = tagWidth-bounds t in
       record {
         grows = omega arith;
         within = h;

@@ -8,26 +8,26 @@ use mathlib.Core.List.{List, [], _∷_, _++_}
 use lib.Dec.{leb, eqb}
 use lib.ListN.{getD}
 use borrow.Author.Tests.{eq-eqb, ne-eqb, le-leb, lt-leb}
-use Rattle.flows.specs.Marks.{Mark, carries, width, markOf, marksIn, has, readsFirst}
+use Rattle.flows.specs.Marks.{Mark, carries, tagWidth, markOf, marksIn, has, readsFirst}
 use Rattle.flows.proofs.Spans.{either, marks-more, marks-none}
 
 -- ---- how wide a tag is
-pub width-one : (t : ℕ) → (t ≡ 0x01 → ⊥) → ((t ≡ 0x02) ⊎ (t ≡ 0x20) → ⊥) → (t ≡ 0x30 → ⊥) → (t ≡ 0x31 → ⊥) → 1 ≡ width t
-unfolding width carries
-width-one t a b c d = simp (ne-eqb t 0x01 a, ne-eqb t 0x02 (λ e. b (inl e)), ne-eqb t 0x20 (λ e. b (inr e)), ne-eqb t 0x30 c, ne-eqb t 0x31 d)
+pub tagWidth-one : (t : ℕ) → (t ≡ 0x01 → ⊥) → ((t ≡ 0x02) ⊎ (t ≡ 0x20) → ⊥) → (t ≡ 0x30 → ⊥) → (t ≡ 0x31 → ⊥) → 1 ≡ tagWidth t
+unfolding tagWidth carries
+tagWidth-one t a b c d = simp (ne-eqb t 0x01 a, ne-eqb t 0x02 (λ e. b (inl e)), ne-eqb t 0x20 (λ e. b (inr e)), ne-eqb t 0x30 c, ne-eqb t 0x31 d)
 
-pub width-operand : (t : ℕ) → (t ≡ 0x02) ⊎ (t ≡ 0x20) → 2 ≡ width t
-unfolding width carries
-width-operand t (inl e) = rw e
-width-operand t (inr e) = rw e
+pub tagWidth-operand : (t : ℕ) → (t ≡ 0x02) ⊎ (t ≡ 0x20) → 2 ≡ tagWidth t
+unfolding tagWidth carries
+tagWidth-operand t (inl e) = rw e
+tagWidth-operand t (inr e) = rw e
 
-pub width-target : (t : ℕ) → 0x30 ≤ t → t < 0x32 → 2 ≡ width t
-unfolding width carries
-width-target t l h = either (λ u. 2 ≡ width u) t 0x30 refl (λ n. let e : t ≡ 0x31 = omega arith in rw e)
+pub tagWidth-target : (t : ℕ) → 0x30 ≤ t → t < 0x32 → 2 ≡ tagWidth t
+unfolding tagWidth carries
+tagWidth-target t l h = either (λ u. 2 ≡ tagWidth u) t 0x30 refl (λ n. let e : t ≡ 0x31 = omega arith in rw e)
 
-pub width-constant : (t : ℕ) → t ≡ 0x01 → 5 ≡ width t
-unfolding width
-width-constant t e = rw e
+pub tagWidth-constant : (t : ℕ) → t ≡ 0x01 → 5 ≡ tagWidth t
+unfolding tagWidth
+tagWidth-constant t e = rw e
 
 -- ---- a tag and its operand at a place
 module _ (a b t x tag y : ℕ) (e : a ≡ t) where
@@ -71,7 +71,7 @@ module _ (tag x : ℕ) (carried : carries tag ≡ true) where
       pub has-here : stands ≡ true → true ≡ whole
       has-here e = sym (so-far ∙ rw (marks-more s at to inside, has-mark (getD s at 0) (getD s (at + 1) 0), ← is, e))
 
-      pub has-on : stands ≡ false → (w t : ℕ) → t ≡ getD s at 0 → w ≡ width t → whole ≡ has tag x (marksIn s (at + w) to)
+      pub has-on : stands ≡ false → (w t : ℕ) → t ≡ getD s at 0 → w ≡ tagWidth t → whole ≡ has tag x (marksIn s (at + w) to)
       has-on e w t f g = so-far ∙ rw (marks-more s at to inside, has-mark (getD s at 0) (getD s (at + 1) 0), ← is, e, g, f)
 
 -- ---- whether variable k is read first
@@ -108,7 +108,7 @@ module _ (k : ℕ) where
         pub first-shielded : 0x20 ≤ t → on ≡ true → false ≡ whole
         first-shielded h e = sym (so-far ∙ rw (marks-more s at to inside, first-mark (getD s at 0) (getD s (at + 1) 0), ← is, unread, ← tag, le-leb 0x20 t h, e))
 
-        module _ (w : ℕ) (wide : w ≡ width t) where
+        module _ (w : ℕ) (wide : w ≡ tagWidth t) where
           pub first-part : 0x20 ≤ t → on ≡ false → (sets : Bool) → sets ≡ (eqb (getD s at 0) 0x20 && eqb (getD s (at + 1) 0) k) → whole ≡ readsFirst k sets (marksIn s (at + w) to)
           first-part h e sets f = so-far ∙ rw (marks-more s at to inside, first-mark (getD s at 0) (getD s (at + 1) 0), ← is, unread, ← f, ← tag, le-leb 0x20 t h, e, wide)
 

@@ -14,8 +14,8 @@ unfoldable pub carries : ℕ → Bool
 carries t = eqb t 0x02 || (eqb t 0x20 || (eqb t 0x30 || eqb t 0x31))
 
 -- how many bytes on the next tag stands
-unfoldable pub width : ℕ → ℕ
-width t = cond (eqb t 0x01) 5 (cond (carries t) 2 1)
+unfoldable pub tagWidth : ℕ → ℕ
+tagWidth t = cond (eqb t 0x01) 5 (cond (carries t) 2 1)
 
 -- the tags that count here are the variables, the statements and the endings; x is the byte after the tag
 unfoldable pub markOf : ℕ → ℕ → List Mark
@@ -24,7 +24,7 @@ markOf t x = cond (eqb t 0x02 || leb 0x20 t) ((t, cond (carries t) x 0) ∷ []) 
 -- what counts of the tags from a place up to another. The first number bounds how many tags there are
 unfoldable pub marksFor : ℕ → List ℕ → ℕ → ℕ → List Mark
 marksFor zero s at to = []
-marksFor (suc f) s at to = cond (ltb at to) (markOf (getD s at 0) (getD s (at + 1) 0) ++ marksFor f s (at + width (getD s at 0)) to) []
+marksFor (suc f) s at to = cond (ltb at to) (markOf (getD s at 0) (getD s (at + 1) 0) ++ marksFor f s (at + tagWidth (getD s at 0)) to) []
 
 -- each tag takes a byte
 abbrev pub marksIn : List ℕ → ℕ → ℕ → List Mark

@@ -17,7 +17,7 @@ ghost use Rattle.definitions.specs.Grammar.{got, mostVariables, mostBlocks, blo
 ghost use Rattle.definitions.specs.Plan.{endOf};
 ghost use Rattle.closure.specs.Tables.{edgeIn, variableIn};
 ghost use Rattle.flows.specs.Flow.{Ruled, Told};
-ghost use Rattle.flows.specs.Marks.{carries, width, marksIn, partIn, has, readsFirst};
+ghost use Rattle.flows.specs.Marks.{carries, tagWidth, marksIn, partIn, has, readsFirst};
 
 // Where each block begins, and where the last one ends.
 pub type Places = [usize; BLOCKS + 1];
@@ -31,7 +31,7 @@ fn byte(s: &[u8], at: usize) -> u8
 
 // How many bytes on the next tag stands.
 fn width_of(tag: u8) -> usize
-    ensures { λ r. ⌜ r ≡ width tag ⌝ }
+    ensures { λ r. ⌜ r ≡ tagWidth tag ⌝ }
 {
     match tag {
         0x01 => 5,

@@ -1,7 +1,7 @@
 -- Laws of a line and a record as the code reads and writes them. Assumes nothing.
 use mathlib.Core.Path.{_≡_, refl, sym, ap, _∙_}
 use mathlib.Core.Bool.{Bool, true, false}
-use Prim.Native.Nat.{ℕ, _+_, _-_, _≤_, _<_}
+use Prim.Native.Nat.{ℕ, suc, _+_, _-_, _≤_, _<_}
 use native.Mathlib.Omega.{arith}
 use native.Mathlib.Numerals.{add-one}
 use native.Mathlib.Nat.{add-zero}
@@ -14,21 +14,29 @@ use mir.Val.{toZ}
 use mir.Facts.{toZ-pos}
 use Rattle.buffers.specs.Words.{over}
 use Rattle.buffers.proofs.Laws.{over-set, over-next, over-pair, length-over}
-use Rattle.definitions.specs.Values.{Val}
+use Rattle.definitions.specs.Values.{Word, Val, asWord, valuesIn, wordsOf, unset}
 use Rattle.definitions.specs.Grammar.{mostVariables}
-use Rattle.definitions.specs.Batch.{Word, countTo, columnsOf}
+use Rattle.definitions.specs.Batch.{countTo, columnsOf}
 use Rattle.definitions.specs.Finder.{mostRows, mostQuota}
 use Rattle.definitions.specs.Calls.{mostBudget}
+use Rattle.definitions.proofs.Values.{words-length, words-append, value-at, values-set}
 use Rattle.definitions.proofs.Counts.{count-before, columns-length}
 use Rattle.columns.specs.OnPlan.{spread}
 
 -- ---- the columns, one variable after the other
 module _ (f : ℕ → Bool) where
-  -- d₀ with the columns among the first k variables put in from at on, which gives d
-  abbrev pub ColumnsPut : List Word → ℕ → List Val → List Word → ℕ → Type 0
-  ColumnsPut d₀ at vars d k = (length d ≡ length d₀) × (d ≡ over d₀ at (columnsOf k f vars))
+  -- the words of the columns among the first k variables
+  abbrev words : ℕ → List Word → List Word
+  words k vars = wordsOf (columnsOf k f (valuesIn vars))
 
-  pub put-none : (d : List Word) (at : ℕ) (vars : List Val) → ColumnsPut d at vars d 0
+  words-count : (k : ℕ) (vars : List Word) → length (words k vars) ≡ countTo k f
+  words-count k vars = words-length (columnsOf k f (valuesIn vars)) ∙ columns-length k f (valuesIn vars)
+
+  -- d₀ with the columns among the first k variables put in from at on, which gives d
+  abbrev pub ColumnsPut : List Word → ℕ → List Word → List Word → ℕ → Type 0
+  ColumnsPut d₀ at vars d k = (length d ≡ length d₀) × (d ≡ over d₀ at (words k vars))
+
+  pub put-none : (d : List Word) (at : ℕ) (vars : List Word) → ColumnsPut d at vars d 0
   unfolding columnsOf over
   put-none d at vars = (refl, sym (ap (λ (n : ℕ). take at d ++ drop n d) (add-zero at) ∙ take-append-drop at d))
 
@@ -37,34 +45,36 @@ module _ (f : ℕ → Bool) where
   column-in at k v n m h l e en = omega (arith, count-before k v f h e)
 
   -- the next variable is a column
-  pub put-one : (d₀ d d' : List Word) (at k v n : ℕ) (vars : List Val) (z : Val) → k < v → at + countTo v f ≤ length d₀ → f k ≡ true → n ≡ countTo k f → z ≡ getD vars k (pos 0)
+  pub put-one : (d₀ d d' : List Word) (at k v n : ℕ) (vars : List Word) (z : Word) → k < v → at + countTo v f ≤ length d₀ → f k ≡ true → n ≡ countTo k f → z ≡ getD vars k (pos 0)
       → d' ≡ set d (at + n) z → ColumnsPut d₀ at vars d k → ColumnsPut d₀ at vars d' (k + 1)
   unfolding columnsOf
   put-one d₀ d d' at k v n vars z h l e en ez ed p =
-      let c = columns-length k f vars in
-      let b = count-before k v f h e in (
+      let c = words-count k vars in
+      let b = count-before k v f h e in
+      let next : words (suc k) vars ≡ words k vars ++ (getD vars k (pos 0) ∷ []) =
+      rw (e, words-append (columnsOf k f (valuesIn vars)) (getD (valuesIn vars) k unset ∷ [])) (ap (λ (x : Val). words k vars ++ (asWord x ∷ [])) (value-at vars k)) in (
         rw ed (length-set d (at + n) z ∙ p .0),
-        rw (ed, en, ez, add-one, e, p .1) (
-            over-set (over d₀ at (columnsOf k f vars)) (at + countTo k f) (getD vars k (pos 0)) (omega (arith, length-over d₀ at (columnsOf k f vars) (omega arith)))
-            ∙ over-next d₀ at (columnsOf k f vars) (at + countTo k f) (getD vars k (pos 0) ∷ []) (omega arith) (omega arith)
+        rw (ed, en, ez, add-one, next, p .1) (
+            over-set (over d₀ at (words k vars)) (at + countTo k f) (getD vars k (pos 0)) (omega (arith, length-over d₀ at (words k vars) (omega arith)))
+            ∙ over-next d₀ at (words k vars) (at + countTo k f) (getD vars k (pos 0) ∷ []) (omega arith) (omega arith)
             ),
       )
 
   -- or it is not
-  pub put-skip : (d₀ d d' : List Word) (at k : ℕ) (vars : List Val) → f k ≡ false → d' ≡ d → ColumnsPut d₀ at vars d k → ColumnsPut d₀ at vars d' (k + 1)
+  pub put-skip : (d₀ d d' : List Word) (at k : ℕ) (vars : List Word) → f k ≡ false → d' ≡ d → ColumnsPut d₀ at vars d k → ColumnsPut d₀ at vars d' (k + 1)
   unfolding columnsOf
   put-skip d₀ d d' at k vars e ed p = rw (ed, add-one, e, append-nil) p
 
   -- the variables of a line's columns, likewise
-  pub spread-none : (cols : List Val) → replicate mostVariables (pos 0) ≡ spread 0 f cols
+  pub spread-none : (cols : List Val) → valuesIn (replicate mostVariables (pos 0)) ≡ spread 0 f cols
   unfolding spread
   spread-none cols = refl
 
-  pub spread-one : (d vars vars' : List Val) (at k n : ℕ) (z : Val) → f k ≡ true → n ≡ countTo k f → z ≡ getD d (at + n) (pos 0) → vars' ≡ set vars k z → vars ≡ spread k f (drop at d) → vars' ≡ spread (k + 1) f (drop at d)
+  pub spread-one : (d vars vars' : List Word) (at k n : ℕ) (z : Word) → f k ≡ true → n ≡ countTo k f → z ≡ getD d (at + n) (pos 0) → vars' ≡ set vars k z → valuesIn vars ≡ spread k f (valuesIn (drop at d)) → valuesIn vars' ≡ spread (k + 1) f (valuesIn (drop at d))
   unfolding spread
-  spread-one d vars vars' at k n z e en ez ev p = rw (ev, ez, en, add-one, e, p, getD-drop)
+  spread-one d vars vars' at k n z e en ez ev p = rw (ev, values-set vars k z, p, add-one, e, value-at (drop at d) (countTo k f), getD-drop, ez, en)
 
-  pub spread-skip : (vars vars' cols : List Val) (k : ℕ) → f k ≡ false → vars' ≡ vars → vars ≡ spread k f cols → vars' ≡ spread (k + 1) f cols
+  pub spread-skip : (vars vars' : List Word) (cols : List Val) (k : ℕ) → f k ≡ false → vars' ≡ vars → valuesIn vars ≡ spread k f cols → valuesIn vars' ≡ spread (k + 1) f cols
   unfolding spread
   spread-skip vars vars' cols k e ev p = rw (ev, add-one, e) p
 

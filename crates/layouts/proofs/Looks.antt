@@ -9,14 +9,15 @@ use lib.ListN.{length, take, drop, getD, replicate, length-append, length-replic
 use lib.Seq.{take-at, getD-append-add, getD-drop}
 use lib.Signed.{nonNeg}
 use Rattle.buffers.proofs.Laws.{over-start, length-over}
-use Rattle.definitions.specs.Values.{Val}
+use Rattle.definitions.specs.Values.{Word, Val, number, valuesIn, wordsOf}
 use Rattle.definitions.specs.Rule.{Rule}
 use Rattle.definitions.specs.Grammar.{mostVariables}
 use Rattle.definitions.specs.Columns.{flowOf, LC}
 use Rattle.definitions.specs.Plan.{bitOf}
 use Rattle.definitions.specs.Direct.{State}
-use Rattle.definitions.specs.Batch.{Word, recordSize, recordOf, countTo, columnsOf}
+use Rattle.definitions.specs.Batch.{recordSize, recordOf, countTo, columnsOf}
 use Rattle.definitions.specs.Finder.{mostRows, mostQuota}
+use Rattle.definitions.proofs.Values.{words-length, value-at, word-at}
 use Rattle.definitions.proofs.Masks.{read-back, mask-count}
 use Rattle.definitions.proofs.Counts.{columns-length, count-before}
 use Rattle.columns.specs.OnPlan.{spread}
@@ -30,10 +31,10 @@ use Rattle.layouts.proofs.Buffers.{part-get, part-fits, part-part}
 
 -- ---- sizes
 pub line-length : (r : Rule) (k : ℕ) (s : State) → length (lineIn r k s) ≡ width r
-line-length r k s = omega (arith, columns-length (r .variables) (LC (flowOf r)) (s .vars))
+line-length r k s = omega (arith, words-length (columnsOf (r .variables) (LC (flowOf r)) (s .vars)), columns-length (r .variables) (LC (flowOf r)) (s .vars))
 
 pub record-length : (r : Rule) (q n : ℕ) (s : State) → Sound r q n s → length (recordOf q s) ≡ recordSize q
-record-length r q n s h = omega (arith, length-append (s .labels) (replicate (q - length (s .labels)) (pos 0)), length-replicate (q - length (s .labels)) (pos 0), h .labels-few)
+record-length r q n s h = omega (arith, words-length (s .labels), length-append (wordsOf (s .labels)) (replicate (q - length (s .labels)) (pos 0)), length-replicate (q - length (s .labels)) (pos 0), h .labels-few)
 
 -- sets that agree below v have the same columns
 columns-set : (v : ℕ) (f g : ℕ → Bool) (vars : List Val) → ((k : ℕ) → k < v → f k ≡ g k) → columnsOf v f vars ≡ columnsOf v g vars
@@ -63,10 +64,10 @@ pub as-number : (z : Word) (n : ℕ) → z ≡ pos n → nonNeg z ≡ true
 as-number z n e = rw e
 
 -- labels that were fetched into an array of zeros
-pub fetched : (n : ℕ) (x : List Val) → length x ≡ n → take n (inArray x) ≡ x
+pub fetched : (n : ℕ) (x : List Word) → length x ≡ n → take n (inArray x) ≡ x
 fetched n x h = rw (over-start (replicate mostVariables (pos 0)) x) (take-at x (drop (length x) (replicate mostVariables (pos 0))) n h)
 
-pub fetched-length : (n : ℕ) (x : List Val) → length x ≡ n → n ≤ mostQuota → length (inArray x) ≡ mostQuota
+pub fetched-length : (n : ℕ) (x : List Word) → length x ≡ n → n ≤ mostQuota → length (inArray x) ≡ mostQuota
 fetched-length n x h l = length-over (replicate mostVariables (pos 0)) 0 x (omega arith)
 
 module _ {l : Layout} {from : ℕ} {out work : List Word} (p : SomeRowAt l from out work) where
@@ -117,13 +118,13 @@ module _ {l : Layout} {from : ℕ} {out work : List Word} (p : SomeRowAt l from 
       pub get-count : getD out (at + 2) (pos 0) ≡ pos (length (p .at .state .labels))
       get-count = rw at-place (get-record 2 (omega arith))
 
-      pub get-labels : (count : ℕ) → count ≡ natAbs (getD out (at + 2) (pos 0)) → take count (drop (at + 3) out) ≡ p .at .state .labels
+      pub get-labels : (count : ℕ) → count ≡ natAbs (getD out (at + 2) (pos 0)) → take count (drop (at + 3) out) ≡ wordsOf (p .at .state .labels)
       get-labels count c =
           let s = p .at .state in
-          rw at-place (part-part out (pos (s .status) ∷ pos (s .begun) ∷ pos (length (s .labels)) ∷ []) (s .labels) (replicate (q - length (s .labels)) (pos 0)) place (recordSize q) 3 count (p .at .record') refl (sym (c ∙ ap natAbs get-count)))
+          rw at-place (part-part out (pos (s .finish .status) ∷ pos (s .begun) ∷ pos (length (s .labels)) ∷ []) (wordsOf (s .labels)) (replicate (q - length (s .labels)) (pos 0)) place (recordSize q) 3 count (p .at .record') refl (words-length (s .labels) ∙ sym (c ∙ ap natAbs get-count)))
 
   -- the columns of the line are those of the row's variables
-  pub get-vars : (vars : List Val) → vars ≡ spread (l .variables) (bitOf (l .lc)) (drop (from + 2) work) → Alike (p .rule .variables) (LC (flowOf (p .rule))) (p .at .state .vars) vars
+  pub get-vars : (vars : List Word) → valuesIn vars ≡ spread (l .variables) (bitOf (l .lc)) (valuesIn (drop (from + 2) work)) → Alike (p .rule .variables) (LC (flowOf (p .rule))) (p .at .state .vars) (valuesIn vars)
   get-vars vars e =
       let r = p .rule in
       let s = p .at .state in
@@ -131,13 +132,18 @@ module _ {l : Layout} {from : ℕ} {out work : List Word} (p : SomeRowAt l from 
       let few = p .known .proper .few in
       record {
         left = omega (arith, p .at .sound .vars-all);
-        right = rw e (omega (arith, spread-length (bitOf (l .lc)) (drop (from + 2) work) (l .variables), few));
+        right = rw e (omega (arith, spread-length (bitOf (l .lc)) (valuesIn (drop (from + 2) work)) (l .variables), few));
         same = λ k h t.
             let c = count-before k (r .variables) f h t in
             let a : from + 2 + countTo k f ≡ from + (2 + countTo k f) = omega arith in
-            sym (columns-at f (r .variables) k (s .vars) h t)
-            ∙ sym (getD-append-add (pos (p .at .row) ∷ pos (s .block) ∷ []) (columnsOf (r .variables) f (s .vars)) (countTo k f) (pos 0))
+            let cols = columnsOf (r .variables) f (s .vars) in
+            let rest = drop (from + 2) work in
+            let place = countTo k (bitOf (l .lc)) in
+            let there : getD (wordsOf cols) (countTo k f) (pos 0) ≡ getD rest place (pos 0) =
+            sym (getD-append-add (pos (p .at .row) ∷ pos (s .block) ∷ []) (wordsOf cols) (countTo k f) (pos 0))
             ∙ sym (get-line (2 + countTo k f) (omega arith))
             ∙ ap (λ (i : ℕ). getD work i (pos 0)) (sym a)
-            ∙ sym (rw (e, p .known .variables) (spread-at (bitOf (l .lc)) (drop (from + 2) work) (r .variables) k few h (mask-at (p .known) k h ∙ t)) ∙ getD-drop (from + 2) work (countTo k (bitOf (l .lc))) (pos 0) ∙ ap (λ (i : ℕ). getD work (from + 2 + i) (pos 0)) (mask-place (p .known) k (omega arith)));
+            ∙ sym (getD-drop (from + 2) work place (pos 0) ∙ ap (λ (i : ℕ). getD work (from + 2 + i) (pos 0)) (mask-place (p .known) k (omega arith))) in
+            sym (columns-at f (r .variables) k (s .vars) h t) ∙ sym (word-at cols (countTo k f)) ∙ ap number there ∙ sym (value-at rest place)
+            ∙ sym (rw (e, p .known .variables) (spread-at (bitOf (l .lc)) (valuesIn rest) (r .variables) k few h (mask-at (p .known) k h ∙ t)));
       }

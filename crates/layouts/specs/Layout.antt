@@ -5,12 +5,13 @@ use mathlib.Core.List.{List}
 use lib.IntN.{pos}
 use lib.ListN.{replicate}
 use Rattle.buffers.specs.Words.{over}
+use Rattle.definitions.specs.Values.{Word}
 use Rattle.definitions.specs.Rule.{Rule, size}
 use Rattle.definitions.specs.Grammar.{mostVariables, mostBlocks}
 use Rattle.definitions.specs.Columns.{flowOf, LC}
 use Rattle.definitions.specs.Plan.{maskOf}
 use Rattle.definitions.specs.Direct.{State}
-use Rattle.definitions.specs.Batch.{Word, lineSize, lineOf, linesFrom}
+use Rattle.definitions.specs.Batch.{lineSize, lineOf, linesFrom}
 use Rattle.definitions.specs.Finder.{mostQuota}
 use Rattle.definitions.specs.Calls.{columns}
 use Rattle.columns.specs.Proper.{Proper}

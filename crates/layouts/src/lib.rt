@@ -7,6 +7,7 @@ ghost use lib.IntN.{pos, natAbs};
 ghost use lib.Signed.{nonNeg};
 ghost use lib.ListN.{length, getD, take, drop, replicate};
 ghost use Rattle.buffers.specs.Words.{over};
+ghost use Rattle.definitions.specs.Values.{valuesIn, wordsOf};
 ghost use Rattle.definitions.specs.Batch.{recordSize, lineSize, countTo, columnsOf};
 ghost use Rattle.definitions.specs.Finder.{mostRows, mostQuota, mostColumns};
 ghost use Rattle.definitions.specs.Calls.{mostBudget};
@@ -14,6 +15,7 @@ ghost use Rattle.definitions.specs.Plan.{bitOf};
 ghost use Rattle.columns.specs.OnPlan.{spread};
 ghost use Rattle.layouts.specs.Layout.{inArray};
 ghost use Rattle.layouts.specs.Rows.{SomeRowAt, RowRead};
+use definitions::Finish;
 use definitions::QUOTA;
 use definitions::ROWS;
 use definitions::VARIABLES;
@@ -70,14 +72,15 @@ pub fn put_record(
     out: &mut [i32],
     at: usize,
     quota: usize,
-    status: u8,
+    finish: Finish,
     begun: usize,
     count: usize,
     labels: &[i32; QUOTA],
 )
     requires { ⌜ (begun ≤ mostBudget) × ((count ≤ quota) × ((quota ≤ mostQuota) × (at + recordSize quota ≤ length (now out)))) ⌝ }
-    ensures { λ _. ⌜ now (out .exit) ≡ over (now (out .entry)) at (pos status ∷ pos begun ∷ pos count ∷ (take count (now (labels .entry)) ++ replicate (quota - count) (pos 0))) ⌝ }
+    ensures { λ _. ⌜ now (out .exit) ≡ over (now (out .entry)) at (pos (finish .status) ∷ pos begun ∷ pos count ∷ (take count (now (labels .entry)) ++ replicate (quota - count) (pos 0))) ⌝ }
 {
+    let status = finish.status;
     out[at] = status as i32;
     out[at + 1] = begun as i32;
     out[at + 2] = count as i32;
@@ -92,7 +95,7 @@ pub fn put_record(
 // The columns among the first v variables, in rising order: into work from index at on.
 fn put_columns(work: &mut [i32], at: usize, v: usize, lc: u16, vars: &[i32; VARIABLES])
     requires { ⌜ (v ≤ mostColumns) × (at + countTo v (bitOf lc) ≤ length (now work)) ⌝ }
-    ensures { λ _. ⌜ now (work .exit) ≡ over (now (work .entry)) at (columnsOf v (bitOf lc) (now (vars .entry))) ⌝ }
+    ensures { λ _. ⌜ now (work .exit) ≡ over (now (work .entry)) at (wordsOf (columnsOf v (bitOf lc) (valuesIn (now (vars .entry))))) ⌝ }
 {
     let mut k: usize = 0;
     while k < v {
@@ -114,7 +117,7 @@ pub fn put_line(
     vars: &[i32; VARIABLES],
 )
     requires { ⌜ (row < mostRows) × ((v ≤ mostColumns) × (at + lineSize (countTo v (bitOf lc)) ≤ length (now work))) ⌝ }
-    ensures { λ _. ⌜ now (work .exit) ≡ over (now (work .entry)) at (pos row ∷ pos block ∷ columnsOf v (bitOf lc) (now (vars .entry))) ⌝ }
+    ensures { λ _. ⌜ now (work .exit) ≡ over (now (work .entry)) at (pos row ∷ pos block ∷ wordsOf (columnsOf v (bitOf lc) (valuesIn (now (vars .entry))))) ⌝ }
 {
     work[at] = row as i32;
     work[at + 1] = block as i32;
@@ -142,10 +145,10 @@ pub fn fetch(src: &[i32], at: usize, n: usize) -> [i32; VARIABLES]
     a
 }
 
-// The columns that stand in work from index at on, each as its variable; all others are 0.
+// The columns that stand in work from index at on, each as its variable; all others are unset.
 fn columns_at(work: &[i32], at: usize, v: usize, lc: u16) -> [i32; VARIABLES]
     requires { ⌜ (v ≤ mostColumns) × (at + countTo v (bitOf lc) ≤ length (now work)) ⌝ }
-    ensures { λ r. ⌜ r ≡ spread v (bitOf lc) (drop at (now (work .entry))) ⌝ }
+    ensures { λ r. ⌜ valuesIn r ≡ spread v (bitOf lc) (valuesIn (drop at (now (work .entry)))) ⌝ }
 {
     let mut vars = [0i32; VARIABLES];
     let mut k: usize = 0;

@@ -8,7 +8,7 @@ use lib.ListN.{length, getD}
 use Rattle.definitions.specs.Rule.{Rule, size}
 use Rattle.definitions.specs.Grammar.{got, targetsOf, ruleOf, variablesIn, blocksIn}
 use Rattle.definitions.specs.Columns.{Flow, flowOf}
-use Rattle.definitions.specs.Plan.{placeOf, planSize}
+use Rattle.definitions.specs.Plan.{placeOf, planSize, longestPlan}
 use Rattle.rules.proofs.Sound.{sound-got}
 use Rattle.rules.proofs.Accepted.{block-sound, rule-in}
 use Rattle.rules.proofs.Places.{rule-header, block-stands}
@@ -18,8 +18,8 @@ use Rattle.flows.proofs.Flow.{place-past, place-within}
 use Rattle.plans.specs.Laid.{Laid, Room}
 
 -- after its header a rule has a block
-pub rule-longer : (s : List ℕ) (r : Rule) (m : ℕ) → ruleOf s ≡ got r m → 5 ≤ length s
-rule-longer s r m e =
+pub rule-has-block : (s : List ℕ) (r : Rule) (m : ℕ) → ruleOf s ≡ got r m → 5 ≤ length s
+rule-has-block s r m e =
     let n = size r in
     let some = rule-in s r m e .blocks-from in
     let there = rule-header s r m e in
@@ -36,8 +36,8 @@ module _ (s : List ℕ) (w : Ruled s) where
   pub ruled-variables : variablesIn s ≤ 16
   ruled-variables = let i = rule-in s (w .rule) (w .end) (w .is) in omega (arith, i .variables-are, i .variables-to)
 
-  -- a plan takes at most 4,578 bytes
-  pub ruled-plan : planSize (blocksIn s) (length s) ≤ 4578
+  -- a plan is no longer than the longest
+  pub ruled-plan : planSize (blocksIn s) (length s) ≤ longestPlan
   ruled-plan = omega (arith, ruled-blocks .1, w .short)
 
   -- where the blocks begin lies in the rule

@@ -24,7 +24,7 @@ use Rattle.plans.specs.Taken.{takenOf, Extracted, Taking}
 use Rattle.plans.proofs.Fields.{plan-length}
 use Rattle.plans.proofs.Accepted.{Plan, is-plan, same-refl, same-is}
 use Rattle.rules.proofs.Places.{rule-end, rule-header}
-use Rattle.plans.proofs.Ruling.{rule-longer}
+use Rattle.plans.proofs.Ruling.{rule-has-block}
 
 -- a plan that was compiled into a longer buffer, compared at its own size
 pub compared : (s : List ℕ) (r : Rule) (m : ℕ) → ruleOf s ≡ got r m → (p : List ℕ) (size : ℕ) → size ≡ planSize (blocksIn s) (length s)
@@ -61,12 +61,12 @@ module _ (p : List ℕ) where
   -- a plan has a block's entry and more
   pub cut-entry : length p < 8 → takenOf (planned p) ≡ taken.NotPlan
   cut-entry h = not-plan (λ r n a.
-      let l = rule-longer (carried p) r n (a .rule) in
+      let l = rule-has-block (carried p) r n (a .rule) in
       omega (arith, ap length (a .bytes), plan-length r (carried p) (omega arith), rule-in (carried p) r n (a .rule) .blocks-from))
 
   -- where there are no bodies, what is carried is at most a header
   pub cut-bodies : length p < bodiesAt p → takenOf (planned p) ≡ taken.NotPlan
-  cut-bodies h = not-plan (λ r n a. let l = rule-longer (carried p) r n (a .rule) in omega (arith, short))
+  cut-bodies h = not-plan (λ r n a. let l = rule-has-block (carried p) r n (a .rule) in omega (arith, short))
     where
       short : length (carried p) ≤ 4
       short = rw (drop-of-length-le p {i = bodiesAt p} (omega arith)) (simp (length-append, length-take) (omega arith))

@@ -10,7 +10,7 @@ use Rattle.definitions.specs.Plan.{planOf, planned}
 -- the rule that was read; nothing is said of a refusal's
 unfoldable pub treeOf : Got Rule → Rule
 treeOf (got r n) = r
-treeOf (refused k p) = record { variables = 0; arguments = 0; blocks = [] }
+treeOf (refused k p) = record { form = 0; variables = 0; arguments = 0; blocks = [] }
 
 abbrev pub ruleIn : List ℕ → Rule
 ruleIn plan = treeOf (planned plan)

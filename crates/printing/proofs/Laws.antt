@@ -15,7 +15,8 @@ use borrow.Author.Tests.{ltb-true, ltb-false, lt-ltb, le-ltb}
 use mir.Syntax.{w32, w64}
 use mir.Val.{Fits, SFits, toZ, ofZ}
 use mir.Facts.{toZ-ofZ, sfits-widen}
-use Rattle.definitions.specs.Batch.{Word, recordSize}
+use Rattle.definitions.specs.Values.{Word}
+use Rattle.definitions.specs.Batch.{recordSize}
 use Rattle.io.specs.Counts.{Counts}
 use Rattle.io.proofs.Counting.{counts}
 use Rattle.io.specs.Digits.{digits, glyph, Fewest}

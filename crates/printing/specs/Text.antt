@@ -6,7 +6,8 @@ use mathlib.Core.Path.{_≡_}
 use lib.Dec.{ltb}
 use lib.IntN.{pos, negsuc}
 use lib.ListN.{length, getD}
-use Rattle.definitions.specs.Batch.{Word, recordSize}
+use Rattle.definitions.specs.Values.{Word}
+use Rattle.definitions.specs.Batch.{recordSize}
 use Rattle.definitions.specs.Finder.{mostQuota}
 use Rattle.buffers.specs.Words.{over}
 

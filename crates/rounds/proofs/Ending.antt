@@ -7,21 +7,21 @@ use mathlib.Core.Path.{_≡_, sym, _∙_}
 use mathlib.Core.Bool.{Bool, true, false}
 use mathlib.Core.List.{List}
 use lib.ListN.{length, getD}
-use Rattle.definitions.specs.Values.{Val, value}
+use Rattle.definitions.specs.Values.{Word, valuesIn, value}
 use Rattle.definitions.specs.Rule.{Cond, End, Goto, Jump, Stop, If}
 use Rattle.definitions.specs.Grammar.{got, refused, two, targetAt, mayGoto, mayJump, depth, condAt, endAt, endBody, endTag}
 use Rattle.definitions.specs.Meaning.{holds}
 use Rattle.definitions.specs.Direct.{exit}
 use Rattle.definitions.specs.declared.Flaw.{Flaw}
-use Rattle.rounds.specs.Skip.{past}
-use Rattle.rounds.specs.Answer.{Stands, holding}
-use Rattle.rounds.specs.Run.{EndHere, leftOf}
-use Rattle.rounds.specs.declared.Held.{Held}
-use Rattle.rounds.specs.declared.Left.{Left}
-use Rattle.rounds.proofs.Tags.{end-bad}
-use Rattle.rounds.proofs.Reading.{no-got, then-got, one-got, two-got, byte-got, target-got}
-use Rattle.rounds.proofs.Skipping.{end-past, past-one}
-use Rattle.rounds.proofs.Answers.{is-got, holds-is, held-fault-is}
+use Rattle.evaluators.specs.Skip.{past}
+use Rattle.evaluators.specs.Answer.{Readable, holding}
+use Rattle.rounds.specs.Run.{EndHere, leadingOf}
+use Rattle.evaluators.specs.declared.Verdict.{Verdict}
+use Rattle.rounds.specs.declared.blocks.Leading.{Leading}
+use Rattle.evaluators.proofs.Tags.{end-bad}
+use Rattle.evaluators.proofs.Reading.{no-got, then-got, one-got, two-got, byte-got, target-got}
+use Rattle.evaluators.proofs.Skipping.{end-past, past-one}
+use Rattle.evaluators.proofs.Answers.{is-got, holds-is, held-fault-is}
 
 module _ (left v : ℕ) (s : List ℕ) (at : ℕ) (h : EndHere left v s at) where
   -- a tag stands there, and a level is left
@@ -64,15 +64,15 @@ module _ (left v : ℕ) (s : List ℕ) (at : ℕ) (h : EndHere left v s at) wher
   pub jump-there : getD s at 0 ≡ 0x31 → at + 1 < length s
   jump-there e = end-jump e .0
 
-  pub goto-answer : (env : List Val) → getD s at 0 ≡ 0x30 → Left.Goto (getD s (at + 1) 0) ≡ leftOf (exit (h .ending) env)
+  pub goto-answer : (env : List Word) → getD s at 0 ≡ 0x30 → Leading.Goto (getD s (at + 1) 0) ≡ leadingOf (exit (h .ending) (valuesIn env))
   unfolding exit
   goto-answer env e = rw (end-goto e .1)
 
-  pub jump-answer : (env : List Val) → getD s at 0 ≡ 0x31 → Left.Jump (getD s (at + 1) 0) ≡ leftOf (exit (h .ending) env)
+  pub jump-answer : (env : List Word) → getD s at 0 ≡ 0x31 → Leading.Jump (getD s (at + 1) 0) ≡ leadingOf (exit (h .ending) (valuesIn env))
   unfolding exit
   jump-answer env e = rw (end-jump e .1)
 
-  pub stop-answer : (env : List Val) → getD s at 0 ≡ 0x32 → Left.Stop ≡ leftOf (exit (h .ending) env)
+  pub stop-answer : (env : List Word) → getD s at 0 ≡ 0x32 → Leading.Stop ≡ leadingOf (exit (h .ending) (valuesIn env))
   unfolding exit
   stop-answer env e = let w = end-as 0x32 e in let q : h .ending ≡ Stop = cc in rw q
 
@@ -107,10 +107,10 @@ module _ (left v : ℕ) (s : List ℕ) (at : ℕ) (h : EndHere left v s at) wher
         let u = two-got (If (w .0)) (λ m. endAt (left - 1) (h .targets) v s m) (w .1) (h .ending) (h .next) (w .3) in
         record { test = w .0; first = u .0; second = u .2; m = w .1; k = u .1; test-reads = w .2; first-reads = u .3; second-reads = u .4; is = u .5 }
 
-    pub if-stands : Stands (condAt depth v s (at + 1))
+    pub if-stands : Readable (condAt depth v s (at + 1))
     if-stands = is-got (condAt depth v s (at + 1)) (parts .test) (parts .m) (parts .test-reads)
 
-    pub if-fault : (env : List Val) (f : Flaw) → holding (condAt depth v s (at + 1)) env ≡ Held.Fault f → Left.Fault f ≡ leftOf (exit (h .ending) env)
+    pub if-fault : (env : List Word) (f : Flaw) → holding (condAt depth v s (at + 1)) env ≡ Verdict.Fault f → Leading.Fault f ≡ leadingOf (exit (h .ending) (valuesIn env))
     unfolding exit
     if-fault env f e =
         let w = held-fault-is env (condAt depth v s (at + 1)) f if-stands e in
@@ -119,8 +119,8 @@ module _ (left v : ℕ) (s : List ℕ) (at : ℕ) (h : EndHere left v s at) wher
         rw (parts .is, ← same, w .3)
 
     -- which ending is taken, and where it stands
-    module _ (env : List Val) (b : Bool) (n : ℕ) (e : holding (condAt depth v s (at + 1)) env ≡ Held.Holds b n) where
-      held : (parts .m ≡ n) × (holds (parts .test) env ≡ value b)
+    module _ (env : List Word) (b : Bool) (n : ℕ) (e : holding (condAt depth v s (at + 1)) env ≡ Verdict.Holds b n) where
+      held : (parts .m ≡ n) × (holds (parts .test) (valuesIn env) ≡ value b)
       held =
           let w = holds-is env (condAt depth v s (at + 1)) b n e in
           let q = sym (w .1) ∙ parts .test-reads in
@@ -139,10 +139,10 @@ module _ (left v : ℕ) (s : List ℕ) (at : ℕ) (h : EndHere left v s at) wher
         reads = rw (past-one s (λ m. endAt (left - 1) (h .targets) v s m) (end-past (left - 1) (h .targets) v s) n (parts .first) (parts .k) (if-first .reads)) (parts .second-reads);
       }
 
-      pub if-true : (r : Left) → b ≡ true → ((g : EndHere (left - 1) v s n) → r ≡ leftOf (exit (g .ending) env)) → r ≡ leftOf (exit (h .ending) env)
+      pub if-true : (r : Leading) → b ≡ true → ((g : EndHere (left - 1) v s n) → r ≡ leadingOf (exit (g .ending) (valuesIn env))) → r ≡ leadingOf (exit (h .ending) (valuesIn env))
       unfolding exit if-first
       if-true r t q = rw (parts .is, held .1, t) (q if-first)
 
-      pub if-false : (r : Left) → b ≡ false → ((g : EndHere (left - 1) v s (past 1 s n)) → r ≡ leftOf (exit (g .ending) env)) → r ≡ leftOf (exit (h .ending) env)
+      pub if-false : (r : Leading) → b ≡ false → ((g : EndHere (left - 1) v s (past 1 s n)) → r ≡ leadingOf (exit (g .ending) (valuesIn env))) → r ≡ leadingOf (exit (h .ending) (valuesIn env))
       unfolding exit if-second
       if-false r t q = rw (parts .is, held .1, t) (q if-second)

@@ -1,9 +1,3 @@
-pub mod Tags
-pub mod Table
-pub mod Reading
-pub mod Skipping
-pub mod Answers
-pub mod Evaluating
 pub mod Ending
 pub mod Stepping
 pub mod Keeping

@@ -9,14 +9,14 @@ use lib.ListN.{length, getD, take}
 use lib.Seq.{getD-take}
 use Rattle.definitions.specs.Rule.{Expr, Cond, End, Stmt, Block, Set, Emit, Const, Var, Neg, Op, Case, Compare, Not, Join, Goto, Jump, If}
 use Rattle.definitions.specs.declared.Targets.{Targets}
-use Rattle.definitions.specs.Grammar.{Got, got, refused, then, byteAt, one, two, constantAt, variableAt, targetAt, mayGoto, mayJump, depth, levels, exprAt, condAt, endAt, exprBody, condBody, endBody, setAt, emitAt, after, blockBody, blockFrom}
+use Rattle.definitions.specs.Grammar.{Got, got, refused, then, byteAt, one, two, constantAt, variableAt, targetAt, mayGoto, mayJump, depth, levels, exprAt, condAt, endAt, exprBody, condBody, endBody, setAt, emitAt, withFirst, blockBody, blockFrom}
 use Rattle.definitions.specs.Grammar.{ExprTag, constTag, varTag, negTag, caseTag, badExpr, opTag, exprTag, CondTag, notTag, badCond, compareTag, joinTag, condTag}
 use Rattle.definitions.specs.Grammar.{EndTag, gotoTag, jumpTag, stopTag, ifTag, badEnd, endTag, StmtTag, setTag, emitTag, noStmt, stmtTag}
-use Rattle.rounds.specs.Run.{BlockHere, Begins}
+use Rattle.rounds.specs.Run.{Prefix}
 use Rattle.rounds.proofs.Stepping.{block-there}
-use Rattle.rounds.proofs.Reading.{no-got, then-got, one-got, two-got, byte-got, constant-got, variable-got, target-got}
+use Rattle.evaluators.proofs.Reading.{no-got, then-got, one-got, two-got, byte-got, constant-got, variable-got, target-got}
 
-pub begins : (s s' : List ℕ) → take (length s) s' ≡ s → length s ≤ length s' → Begins s s'
+pub begins : (s s' : List ℕ) → take (length s) s' ≡ s → length s ≤ length s' → Prefix s s'
 begins s s' e h = record { longer = h; same = λ k l. sym (getD-take (length s) s' k 0 l) ∙ rw e }
 
 -- a reading goes over
@@ -34,7 +34,7 @@ three-over make C C' E E' g h at b m e =
     let w = then-got (C at) (λ c n. two (make c) E n) b m e in
     rw (g at (w .0) (w .1) (w .2)) (two-over (make (w .0)) E E' h (w .1) b m (w .3))
 
-module _ (s s' : List ℕ) (p : Begins s s') where
+module _ (s s' : List ℕ) (p : Prefix s s') where
   constant-over : Over (constantAt s) (constantAt s')
   constant-over at z n e =
       let w = constant-got s at z n e in
@@ -85,21 +85,21 @@ module _ (s s' : List ℕ) (p : Begins s s') where
 mutual
   unfolding exprAt
 
-  expr-over : (d v : ℕ) (s s' : List ℕ) → Begins s s' → Over (λ at. exprAt d v s at) (λ at. exprAt d v s' at)
+  expr-over : (d v : ℕ) (s s' : List ℕ) → Prefix s s' → Over (λ at. exprAt d v s at) (λ at. exprAt d v s' at)
   expr-over zero v s s' p at a n e = tag-over s s' p at (λ t. refused 8 at) (λ t. refused 8 at) a n (λ q. q) e
   expr-over (suc d) v s s' p at a n e =
       tag-over s s' p at (λ t. exprBody (exprTag t) v s (λ n. exprAt d v s n) (λ n. condAt d v s n) at) (λ t. exprBody (exprTag t) v s' (λ n. exprAt d v s' n) (λ n. condAt d v s' n) at) a n
       (expr-body s s' p v (λ n. exprAt d v s n) (λ n. exprAt d v s' n) (λ n. condAt d v s n) (λ n. condAt d v s' n) (λ at a n e. expr-over d v s s' p at a n e) (λ at a n e. cond-over d v s s' p at a n e) at n (exprTag (getD s at 0)) a)
       e
 
-  cond-over : (d v : ℕ) (s s' : List ℕ) → Begins s s' → Over (λ at. condAt d v s at) (λ at. condAt d v s' at)
+  cond-over : (d v : ℕ) (s s' : List ℕ) → Prefix s s' → Over (λ at. condAt d v s at) (λ at. condAt d v s' at)
   cond-over zero v s s' p at a n e = tag-over s s' p at (λ t. refused 8 at) (λ t. refused 8 at) a n (λ q. q) e
   cond-over (suc d) v s s' p at a n e =
       tag-over s s' p at (λ t. condBody (condTag t) (λ n. exprAt d v s n) (λ n. condAt d v s n) at) (λ t. condBody (condTag t) (λ n. exprAt d v s' n) (λ n. condAt d v s' n) at) a n
       (cond-body s s' p v (λ n. exprAt d v s n) (λ n. exprAt d v s' n) (λ n. condAt d v s n) (λ n. condAt d v s' n) (λ at a n e. expr-over d v s s' p at a n e) (λ at a n e. cond-over d v s s' p at a n e) at n (condTag (getD s at 0)) a)
       e
 
-module _ (ts : Targets) (v : ℕ) (s s' : List ℕ) (p : Begins s s') where
+module _ (ts : Targets) (v : ℕ) (s s' : List ℕ) (p : Prefix s s') where
   end-body : (E E' : ℕ → Got End) → Over E E' → (at m : ℕ) (x : EndTag) (a : End) → endBody x ts v s E at ≡ got a m → endBody x ts v s' E' at ≡ got a m
   end-body E E' h at m gotoTag a e = one-over Goto (targetAt (mayGoto ts) s) (targetAt (mayGoto ts) s') (target-over s s' p (mayGoto ts)) (at + 1) a m e
   end-body E E' h at m jumpTag a e = one-over Jump (targetAt (mayJump ts) s) (targetAt (mayJump ts) s') (target-over s s' p (mayJump ts)) (at + 1) a m e
@@ -123,10 +123,10 @@ module _ (ts : Targets) (v : ℕ) (s s' : List ℕ) (p : Begins s s') where
   emit-over : Over (emitAt v s) (emitAt v s')
   emit-over = one-over Emit (exprAt depth v s) (exprAt depth v s') (expr-over depth v s s' p)
 
-  later-over : (S S' : ℕ → Got Stmt) (B B' : ℕ → Got Block) → Over S S' → Over B B' → Over (λ at. then (S at) (λ x m. one (after x) B m)) (λ at. then (S' at) (λ x m. one (after x) B' m))
+  later-over : (S S' : ℕ → Got Stmt) (B B' : ℕ → Got Block) → Over S S' → Over B B' → Over (λ at. then (S at) (λ x m. one (withFirst x) B m)) (λ at. then (S' at) (λ x m. one (withFirst x) B' m))
   later-over S S' B B' g h at a m e =
-      let w = then-got (S at) (λ x m. one (after x) B m) a m e in
-      rw (g at (w .0) (w .1) (w .2)) (one-over (after (w .0)) B B' h (w .1) a m (w .3))
+      let w = then-got (S at) (λ x m. one (withFirst x) B m) a m e in
+      rw (g at (w .0) (w .1) (w .2)) (one-over (withFirst (w .0)) B B' h (w .1) a m (w .3))
 
   block-body : (B B' : ℕ → Got Block) → Over B B' → (at m : ℕ) (x : StmtTag) (a : Block) → blockBody x ts v s B at ≡ got a m → blockBody x ts v s' B' at ≡ got a m
   block-body B B' h at m setTag a e = later-over (setAt v s) (setAt v s') B B' set-over h (at + 1) a m e

@@ -1,4 +1,2 @@
-pub mod Skip
-pub mod Answer
 pub mod Run
 pub mod Round

@@ -11,7 +11,7 @@ use borrow.Author.Tests.{ltb-true, ltb-false, leb-true, eqb-true, eqb-false, not
 use Rattle.definitions.specs.Rule.{Stmt, Set, Emit, End, Goto, Jump, Stop, If, Block, Rule, size, blockOf}
 use Rattle.definitions.specs.Columns.{reads, looks, endLooks, readFirst, sets, goesTo, jumpsTo}
 use Rattle.definitions.specs.Grammar.{Got, got, refused, then, one, mayGoto, mayJump, targetsOf, depth, levels, setAt, emitAt, endAt, endBody, endTag, EndTag, gotoTag, jumpTag, stopTag, ifTag, badEnd}
-use Rattle.definitions.specs.Grammar.{StmtTag, setTag, emitTag, noStmt, stmtTag, after, blockBody, blockFrom, between, formIn, variablesIn, argumentsIn, blocksIn, headed, blocksTo, wholeRule, ruleOf}
+use Rattle.definitions.specs.Grammar.{StmtTag, setTag, emitTag, noStmt, stmtTag, withFirst, blockBody, blockFrom, between, formIn, variablesIn, argumentsIn, blocksIn, headed, blocksTo, wholeRule, ruleOf}
 use Rattle.definitions.specs.declared.Targets.{Targets}
 use Rattle.rules.specs.Readings.{stmtAt, stmtBody}
 use Rattle.rules.specs.Accepted.{Below, ExprIn, CondIn, StmtIn, BodyIn, Ahead, EndIn, BlockIn, noBlock, RuleIn}
@@ -100,15 +100,15 @@ module _ (ts : Targets) (v : ℕ) where
     abbrev Whole : Block → Type 0
     Whole = BlockIn ts v
 
-    one-more : (x : Stmt) (y : Block) → StmtIn v x → Whole y → Whole (after x y)
+    one-more : (x : Stmt) (y : Block) → StmtIn v x → Whole y → Whole (withFirst x y)
     one-more x y h g = record { body-in = (h, g .body-in); ending-in = g .ending-in }
 
     module _ (B : ℕ → Got Block) (g : (m : ℕ) → Sound Whole m (length s) (B m)) where
       -- a statement after its tag, and the block after it
-      further : (at : ℕ) (p : Got Stmt) → Sound (StmtIn v) (at + 1) (length s) p → Sound Whole at (length s) (then p (λ x m. one (after x) B m))
+      further : (at : ℕ) (p : Got Stmt) → Sound (StmtIn v) (at + 1) (length s) p → Sound Whole at (length s) (then p (λ x m. one (withFirst x) B m))
       further at p h =
           earlier (length s) Whole at (at + 1) _ (omega arith) (next (length s) (StmtIn v) Whole (at + 1) p _ h (λ x m l u i.
-          earlier (length s) Whole (at + 1) m _ (omega arith) (made (length s) Whole Whole (after x) (λ y j. one-more x y i j) m _ (g m))))
+          earlier (length s) Whole (at + 1) m _ (omega arith) (made (length s) Whole Whole (withFirst x) (λ y j. one-more x y i j) m _ (g m))))
 
       block-body : (at : ℕ) (t : StmtTag) → Sound Whole at (length s) (blockBody t ts v s B at)
       block-body at setTag = further at (setAt v s (at + 1)) (set-sound v s (at + 1))
@@ -164,12 +164,14 @@ module _ (s : List ℕ) where
   bad k p l u h = refusal (length s) Good 3 k p l u h
 
   accepted :
-      (1 ≤ variablesIn s) × (variablesIn s ≤ 16) → argumentsIn s ≤ variablesIn s → (1 ≤ blocksIn s) × (blocksIn s ≤ 64) →
-      (bs : List Block) → First (blocksIn s) (variablesIn s) (blocksIn s) bs → Good (record { variables = variablesIn s; arguments = argumentsIn s; blocks = bs })
-  accepted v a n bs f = record {
+      formIn s ≡ 1 → (1 ≤ variablesIn s) × (variablesIn s ≤ 16) → argumentsIn s ≤ variablesIn s → (1 ≤ blocksIn s) × (blocksIn s ≤ 64) →
+      (bs : List Block) → First (blocksIn s) (variablesIn s) (blocksIn s) bs → Good (record { form = formIn s; variables = variablesIn s; arguments = argumentsIn s; blocks = bs })
+  accepted m v a n bs f = record {
+    form-stands = refl;
     variables-are = refl;
     arguments-are = refl;
     blocks-are = f .count;
+    form-is = m;
     variables-from = v .0;
     variables-to = v .1;
     arguments-to = a;
@@ -182,13 +184,13 @@ module _ (s : List ℕ) where
   unfolding ruleOf headed
   rule-sound =
       choice Good (length s) 3 (ltb (length s) 4) _ _ (λ _. bad 9 (length s) (omega arith) (omega arith) (omega arith)) (λ e. let l = ltb-false (length s) 4 e in
-      choice Good (length s) 3 (not (eqb (formIn s) 1)) _ _ (λ _. bad 4 0 (omega arith) (omega arith) (omega arith)) (λ _.
+      choice Good (length s) 3 (not (eqb (formIn s) 1)) _ _ (λ _. bad 4 0 (omega arith) (omega arith) (omega arith)) (λ m.
       choice Good (length s) 3 (not (between 1 16 (variablesIn s))) _ _ (λ _. bad 4 1 (omega arith) (omega arith) (omega arith)) (λ v.
       choice Good (length s) 3 (not (leb (argumentsIn s) (variablesIn s))) _ _ (λ _. bad 4 2 (omega arith) (omega arith) (omega arith)) (λ a.
       choice Good (length s) 3 (not (between 1 64 (blocksIn s))) _ _ (λ _. bad 4 3 (omega arith) (omega arith) (omega arith)) (λ n.
       next (length s) (First (blocksIn s) (variablesIn s) (blocksIn s)) Good 3 _ (wholeRule s) (blocks-sound (blocksIn s) (variablesIn s) s l (blocksIn s)) (λ bs at h u f.
       choice Good (length s) 3 (ltb at (length s)) _ _ (λ _. bad 10 at (omega arith) (omega arith) u) (λ _. found (length s) Good 3 _ at h u
-      (accepted (holds 1 16 (variablesIn s) v) (leb-true (argumentsIn s) (variablesIn s) (not-false _ a)) (holds 1 64 (blocksIn s) n) bs f))))))))
+      (accepted (eqb-true (formIn s) 1 (not-false _ m)) (holds 1 16 (variablesIn s) v) (leb-true (argumentsIn s) (variablesIn s) (not-false _ a)) (holds 1 64 (blocksIn s) n) bs f))))))))
 
   -- ---- what is to be had of an accepted rule
   module _ (r : Rule) (n : ℕ) (e : ruleOf s ≡ got r n) where

@@ -9,7 +9,7 @@ use lib.ListN.{length, getD, List·getD-eq-default}
 use borrow.Author.Tests.{ltb-true, ltb-false, lt-ltb, le-ltb, ne-eqb}
 use Rattle.definitions.specs.Rule.{Stmt, Set, Emit, End, Goto, Jump, If, Block}
 use Rattle.definitions.specs.Grammar.{Got, got, refused, then, readOf, byteAt, one, variableAt, targetAt, mayGoto, mayJump, exprAt, condAt, depth, levels, setAt, emitAt, endAt, endBody, endTag, EndTag, gotoTag, jumpTag, stopTag, ifTag, badEnd}
-use Rattle.definitions.specs.Grammar.{StmtTag, setTag, emitTag, noStmt, stmtTag, after, blockBody, blockFrom, blockAt}
+use Rattle.definitions.specs.Grammar.{StmtTag, setTag, emitTag, noStmt, stmtTag, withFirst, blockBody, blockFrom, blockAt}
 use Rattle.definitions.specs.declared.Targets.{Targets}
 use Rattle.definitions.specs.declared.Refusal.{Refusal}
 use Rattle.definitions.specs.declared.Read.{Read}
@@ -106,9 +106,9 @@ module _ (ts : Targets) (v : ℕ) (s : List ℕ) where
   -- what goes on after a statement, all further to the right, is all that counts of what follows
   rest-same :
       (at : ℕ) (p : Got Stmt) (B C : ℕ → Got Block) → Sound (StmtIn v) at (length s) p → ((m : ℕ) → at < m → B m ≡ C m) →
-      then p (λ x m. one (after x) B m) ≡ then p (λ x m. one (after x) C m)
+      then p (λ x m. one (withFirst x) B m) ≡ then p (λ x m. one (withFirst x) C m)
   unfolding Sound
-  rest-same at (got x m) B C g h = ap (λ q. then q (λ y k. got (after x y) k)) (h m (g .0))
+  rest-same at (got x m) B C g h = ap (λ q. then q (λ y k. got (withFirst x y) k)) (h m (g .0))
   rest-same at (refused k q) B C g h = refl
 
   body-same : (at : ℕ) (B C : ℕ → Got Block) → ((m : ℕ) → at + 1 < m → B m ≡ C m) → (t : StmtTag) → blockBody t ts v s B at ≡ blockBody t ts v s C at
@@ -128,11 +128,11 @@ module _ (ts : Targets) (v : ℕ) (s : List ℕ) where
     block-is = block-fuel (length s) at (omega arith)
 
     -- a statement and then the rest, or the ending alone
-    pub block-stmt : begins s at ≡ true → blockAt ts v s at ≡ then (stmtAt v s at) (λ x m. one (after x) (blockAt ts v s) m)
+    pub block-stmt : begins s at ≡ true → blockAt ts v s at ≡ then (stmtAt v s at) (λ x m. one (withFirst x) (blockAt ts v s) m)
     unfolding begins stmtAt
     block-stmt e = rw (block-is, lt-ltb at (length s) (begins-there s at e)) (go (stmtTag (getD s at 0)) e)
       where
-        go : (t : StmtTag) → isStmt t ≡ true → blockBody t ts v s (λ m. blockAt ts v s m) at ≡ then (stmtBody t v s at) (λ x m. one (after x) (blockAt ts v s) m)
+        go : (t : StmtTag) → isStmt t ≡ true → blockBody t ts v s (λ m. blockAt ts v s m) at ≡ then (stmtBody t v s at) (λ x m. one (withFirst x) (blockAt ts v s) m)
         go setTag e = refl
         go emitTag e = refl
         go noStmt e = let z : _≡_ {A = ℕ} 0 1 = cc in absurd (omega arith)
@@ -148,7 +148,7 @@ module _ (ts : Targets) (v : ℕ) (s : List ℕ) where
 
     -- the same of the readers' answers
     pub block-goes : (m : ℕ) → begins s at ≡ true → readOf (stmtAt v s at) ≡ Next m → readOf (blockAt ts v s at) ≡ readOf (blockAt ts v s m)
-    block-goes m e h = ap readOf (block-stmt e) ∙ then-one after (stmtAt v s at) (blockAt ts v s) ∙ sym (goes (stmtAt v s at) _ m _ h (λ _. refl))
+    block-goes m e h = ap readOf (block-stmt e) ∙ then-one withFirst (stmtAt v s at) (blockAt ts v s) ∙ sym (goes (stmtAt v s at) _ m _ h (λ _. refl))
 
     pub block-refused : (r : Refusal) → begins s at ≡ true → readOf (stmtAt v s at) ≡ Refused r → readOf (blockAt ts v s at) ≡ Refused r
     block-refused r e h = ap readOf (block-stmt e) ∙ sym (stays (stmtAt v s at) _ r h)

@@ -9,7 +9,7 @@ use lib.ListN.{length, getD, List·getD-append}
 use lib.Seq.{getD-at}
 use borrow.Author.Tests.{ltb-false, eqb-true, eqb-false}
 use Rattle.definitions.specs.Rule.{Block, Rule, size, blockOf}
-use Rattle.definitions.specs.Grammar.{Got, got, refused, then, readOf, one, targetsOf, blockAt, variablesIn, argumentsIn, blocksTo, wholeRule, ruleOf}
+use Rattle.definitions.specs.Grammar.{Got, got, refused, then, readOf, one, targetsOf, blockAt, formIn, variablesIn, argumentsIn, blocksTo, wholeRule, ruleOf}
 use Rattle.definitions.specs.Plan.{endOf, placeOf}
 use Rattle.definitions.specs.declared.Read.the-variants.{Next}
 use Rattle.rules.specs.Readings.{headerAt}
@@ -89,7 +89,7 @@ module _ (s : List ℕ) (r : Rule) (n : ℕ) (e : ruleOf s ≡ got r n) where
   whole true x m q w = let z : _≡_ {A = ℕ} 0 1 = cc in absurd (omega arith)
   whole false x m q w = (cc, (cc), ltb-false m (length s) q)
 
-  read : ((record { variables = variablesIn s; arguments = argumentsIn s; blocks = inner .first }) ≡ r) × (inner .place ≡ n) × (length s ≤ inner .place)
+  read : ((record { form = formIn s; variables = variablesIn s; arguments = argumentsIn s; blocks = inner .first }) ≡ r) × (inner .place ≡ n) × (length s ≤ inner .place)
   read = whole (ltb (inner .place) (length s)) _ (inner .place) refl (inner .then-was)
 
   -- the whole of the bytes was read, and these are the rule's blocks

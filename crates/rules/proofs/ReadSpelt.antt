@@ -5,14 +5,14 @@ use mathlib.Core.Path.{_≡_, refl, sym, ap, _∙_}
 use mathlib.Core.Bool.{Bool, true, false, cond}
 use mathlib.Core.List.{List, [], _∷_, _++_, append-assoc}
 use lib.Dec.{ltb, leb}
+use lib.IntN.{ℤ}
 use lib.ListN.{length, getD}
 use borrow.Author.Tests.{ltb-true, leb-true}
-use Rattle.definitions.specs.Values.{Val}
 use Rattle.definitions.specs.Rule.{Expr, Cond, Const, Var, Neg, Op, Case, Compare, Not, Join, Stmt, Set, Emit, End, Goto, Jump, If, Block}
 use Rattle.definitions.specs.declared.Targets.{Targets}
 use Rattle.definitions.specs.Grammar.{Got, got, refused, then, byteAt, one, two, constantIn, constantAt, wordOf, variableAt, targetAt, mayGoto, mayJump, targetsOf, exprAt, condAt, exprBody, condBody, exprTag, condTag}
 use Rattle.definitions.specs.Grammar.{ExprTag, constTag, varTag, negTag, caseTag, badExpr, opTag, CondTag, notTag, badCond, compareTag, joinTag, StmtTag, setTag, emitTag, noStmt, stmtTag, EndTag, gotoTag, jumpTag, stopTag, ifTag, badEnd, endTag}
-use Rattle.definitions.specs.Grammar.{endBody, endAt, depth, levels, setAt, emitAt, after, blockBody, blockFrom, blockAt, blocksTo}
+use Rattle.definitions.specs.Grammar.{endBody, endAt, depth, levels, setAt, emitAt, withFirst, blockBody, blockFrom, blockAt, blocksTo}
 use Rattle.definitions.specs.Spelling.{constantBytes, le32, operatorByte, relationByte, jointByte, exprBytes, condBytes, stmtBytes, endBytes, inTurn, blockBytes}
 use Rattle.definitions.specs.Limits.{exprDepth, condDepth, endDepth, InRange, ExprKeeps, CondKeeps, StmtKeeps, EndKeeps, Every, BlockKeeps}
 use Rattle.definitions.proofs.Tests.{and-parts}
@@ -79,7 +79,7 @@ module _ (s : List ℕ) where
   tested-read : (P : ℕ → Type 0) (test : ℕ → Bool) (number at : ℕ) → ((k : ℕ) → test k ≡ true → P k) → ReadAs (byteOf P) at (then (byteAt s at) (λ k n. cond (test k) (got k n) (refused number at)))
   tested-read P test number at h = if-then (Here at) _ (byteAt s at) _ (byte-here at) (λ k n b. if-cond _ (test k) _ _ (λ e. (h k e, b)) (λ e. tt))
 
-  abbrev constants : Form Val
+  abbrev constants : Form ℤ
   constants = record { keeps = InRange; bytes = constantBytes }
 
   constant-read : Bytes s → (at : ℕ) → ReadAs constants at (constantAt s at)
@@ -198,11 +198,11 @@ module _ (s : List ℕ) where
 
         module _ (B : ℕ → Got Block) (h : (m : ℕ) → ReadAs blocks m (B m)) (at : ℕ) where
           -- a statement, and the block after it
-          further : (p : Got Stmt) → ReadAs stmts at p → ReadAs blocks at (then p (λ x m. one (after x) B m))
+          further : (p : Got Stmt) → ReadAs stmts at p → ReadAs blocks at (then p (λ x m. one (withFirst x) B m))
           unfolding blockBytes inTurn Every
           further p q =
               if-then _ _ p _ q (λ x m j.
-              one-more blocks blocks at (after x) (stmtBytes x) m (B m) (j .1) (λ y. append-assoc (stmtBytes x) (inTurn stmtBytes (y .body)) (endBytes (y .ending)))
+              one-more blocks blocks at (withFirst x) (stmtBytes x) m (B m) (j .1) (λ y. append-assoc (stmtBytes x) (inTurn stmtBytes (y .body)) (endBytes (y .ending)))
               (λ y k. record { body-keeps = (j .0, k .body-keeps); ending-keeps = k .ending-keeps; ending-deep = k .ending-deep }) (h m))
 
           block-body : (t : StmtTag) → StmtByte (getD s at 0) t → ReadAs blocks at (blockBody t ts v s B at)

@@ -4,13 +4,10 @@ use Prim.Native.Nat.{ℕ, _+_, _≤_}
 use native.Mathlib.Omega.{arith}
 use mathlib.Core.Path.{_≡_, refl, sym, ap, _∙_}
 use mathlib.Core.Logic.{_↔_}
-use mathlib.Core.Bool.{Bool, true, false, cond, not}
 use mathlib.Core.List.{List, _++_}
-use lib.Dec.{ltb, eqb}
 use lib.ListN.{length, take, drop, take-append-drop}
-use borrow.Author.Tests.{eqb-true}
 use Rattle.definitions.specs.Rule.{Rule, size}
-use Rattle.definitions.specs.Grammar.{Got, got, refused, then, formIn, headed, ruleOf, longest}
+use Rattle.definitions.specs.Grammar.{Got, got, then, ruleOf, longest}
 use Rattle.definitions.specs.Plan.{placeOf, endOf}
 use Rattle.definitions.specs.Pages.{fileOf, unpacked}
 use Rattle.definitions.specs.Calls.{toRead, toWrite, Wrote}
@@ -31,15 +28,6 @@ use Rattle.rules.proofs.Promises.{file-exactly, write-exactly}
 
 -- ---- what is read
 module _ (s : List ℕ) (r : Rule) (n : ℕ) (e : ruleOf s ≡ got r n) where
-  form : formIn s ≡ 1
-  unfolding ruleOf headed
-  form = go (ltb (length s) 4) (eqb (formIn s) 1) _ refl e
-    where
-      go : (a b : Bool) (rest : Got Rule) → eqb (formIn s) 1 ≡ b → cond a (refused 9 (length s)) (cond (not b) (refused 4 0) rest) ≡ got r n → formIn s ≡ 1
-      go true b rest i q = let z : _≡_ {A = ℕ} 0 1 = cc in absurd (omega arith)
-      go false true rest i q = eqb-true (formIn s) 1 i
-      go false false rest i q = let z : _≡_ {A = ℕ} 0 1 = cc in absurd (omega arith)
-
   module _ (small : Bytes s) where
     spelt : Every (BlockKeeps (size r) (r .variables)) (r .blocks) × Spelt s 4 (inTurn blockBytes (r .blocks)) n
     spelt = blocks-spelt s small (r .variables) (size r) (size r) (r .blocks) n (rule-blocks s r n e)
@@ -48,6 +36,7 @@ module _ (s : List ℕ) (r : Rule) (n : ℕ) (e : ruleOf s ≡ got r n) where
     read-limits =
         let i = rule-in s r n e in
         record {
+          form-is = i .form-is;
           variables-from = i .variables-from;
           variables-to = i .variables-to;
           arguments-to = i .arguments-to;
@@ -63,7 +52,7 @@ module _ (s : List ℕ) (r : Rule) (n : ℕ) (e : ruleOf s ≡ got r n) where
         let i = rule-in s r n e in
         let l = rule-header s r n e in
         let h : Spelt s 4 (inTurn blockBytes (r .blocks)) (length s) = rw (rule-end s r n e) at (spelt .1) in
-        spelt-whole s (bytesOf r) (omega arith, form, (omega arith, sym (i .variables-are), (omega arith, sym (i .arguments-are), (omega arith, sym (i .blocks-are), h))))
+        spelt-whole s (bytesOf r) (omega arith, sym (i .form-stands), (omega arith, sym (i .variables-are), (omega arith, sym (i .arguments-are), (omega arith, sym (i .blocks-are), h))))
 
 -- ---- the theorem: accepted as r exactly if these are the bytes of r, and r keeps to the limits
 pub rule-exactly : (s : List ℕ) → Bytes s → (r : Rule) (n : ℕ) → (ruleOf s ≡ got r n) ↔ ((s ≡ bytesOf r) × Limits r × (n ≡ length s))

@@ -11,7 +11,7 @@ use lib.IntN.{ℤ, pos, negsuc}
 use lib.ListN.{length, getD, drop, length-append}
 use lib.Seq.{drop-cons, drop-length, getD-append-seam}
 use borrow.Author.Tests.{ltb-true, ltb-false, lt-ltb, le-ltb}
-use Rattle.definitions.specs.Values.{value, fault, flaw, settled}
+use Rattle.definitions.specs.Values.{value, fault, settled}
 use Rattle.definitions.specs.declared.Kind.the-variants.{OutOfRange}
 use Rattle.definitions.specs.Grammar.{twos, wordOf}
 use Rattle.definitions.specs.Spelling.{unsigned, le32, inTurn}
@@ -105,7 +105,7 @@ unfolding settled
 reach n h = let l = le-ltb 2147483647 n (omega arith) in (rw l, rw l)
 
 -- what the test lets through it found no fault with
-let-through : (t : Bool) (z : ℤ) → cond t (fault (flaw OutOfRange)) (value z) ≡ value z → t ≡ false
+let-through : (t : Bool) (z : ℤ) → cond t (fault OutOfRange) (value z) ≡ value z → t ≡ false
 let-through true z e = let q : _≡_ {A = ℕ} 0 1 = cc in absurd (omega arith)
 let-through false z e = refl
 

@@ -13,7 +13,7 @@ use Rattle.definitions.specs.Rule.{Expr, Cond, Const, Var, Neg, Op, Case, Compa
 use Rattle.definitions.specs.Columns.{goesTo}
 use Rattle.definitions.specs.Grammar.{Got, got, refused, then, byteAt, one, two, constantAt, variableAt, targetAt, mayGoto, mayJump, targetsOf, twos, exprAt, condAt, exprBody, condBody, exprTag, condTag}
 use Rattle.definitions.specs.declared.Targets.{Targets}
-use Rattle.definitions.specs.Grammar.{ExprTag, constTag, varTag, negTag, caseTag, opTag, CondTag, notTag, compareTag, joinTag, noStmt, stmtTag, EndTag, gotoTag, jumpTag, stopTag, ifTag, endTag, endBody, endAt, depth, levels, blockBody, blockAt, blocksTo, after, headed, ruleOf}
+use Rattle.definitions.specs.Grammar.{ExprTag, constTag, varTag, negTag, caseTag, opTag, CondTag, notTag, compareTag, joinTag, noStmt, stmtTag, EndTag, gotoTag, jumpTag, stopTag, ifTag, endTag, endBody, endAt, depth, levels, blockBody, blockAt, blocksTo, withFirst, headed, ruleOf}
 use Rattle.definitions.specs.Spelling.{constantBytes, unsigned, exprBytes, condBytes, stmtBytes, endBytes, inTurn, blockBytes, bytesOf}
 use Rattle.definitions.specs.Limits.{exprDepth, condDepth, endDepth, InRange, ExprKeeps, CondKeeps, StmtKeeps, EndKeeps, Every, BlockKeeps, Limits}
 use Rattle.definitions.proofs.Tests.{or-left, or-right, and-both}
@@ -136,16 +136,16 @@ module _ (s : List ℕ) where
     ends-body (If c x y) at m st = ap stmtTag (st .1)
 
     -- a block goes on after each of its statements
-    stmt-gives : (x : Stmt) → StmtKeeps v x → (B : ℕ → Got Block) (at m : ℕ) → Spelt s at (stmtBytes x) m → blockBody (stmtTag (getD s at 0)) ts v s B at ≡ one (after x) B m
+    stmt-gives : (x : Stmt) → StmtKeeps v x → (B : ℕ → Got Block) (at m : ℕ) → Spelt s at (stmtBytes x) m → blockBody (stmtTag (getD s at 0)) ts v s B at ≡ one (withFirst x) B m
     unfolding stmtBytes StmtKeeps
     stmt-gives (Set x a) k B at m st =
         rw (ap stmtTag (st .1))
-        (ap (λ (p : Got Stmt). then p (λ x m. one (after x) B m))
+        (ap (λ (p : Got Stmt). then p (λ x m. one (withFirst x) B m))
         (first-gives (λ x. x ∷ []) (variableAt v s) _ x (Set x a) (exprBytes a) (variable-gives v x (k .0))
         (one-gives exprBytes (Set x) (exprAt depth v s) a (expr-gives a depth v (k .1) (k .2))) (at + 1) m (st .2)))
     stmt-gives (Emit a) k B at m st =
         rw (ap stmtTag (st .1))
-        (ap (λ (p : Got Stmt). then p (λ x m. one (after x) B m)) (one-gives exprBytes Emit (exprAt depth v s) a (expr-gives a depth v (k .0) (k .1)) (at + 1) m (st .2)))
+        (ap (λ (p : Got Stmt). then p (λ x m. one (withFirst x) B m)) (one-gives exprBytes Emit (exprAt depth v s) a (expr-gives a depth v (k .0) (k .1)) (at + 1) m (st .2)))
 
     module _ (e : End) (deep : endDepth e ≤ levels) (keeps : EndKeeps (ts .blocks) v e) (up : (t : ℕ) → goesTo e t ≡ true → ts .lowest ≤ t) where
       body-gives : (xs : List Stmt) → Every (StmtKeeps v) xs → (at m : ℕ) → Spelt s at (inTurn stmtBytes xs ++ endBytes e) m → blockAt ts v s at ≡ got (record { body = xs; ending = e }) m
@@ -174,7 +174,7 @@ module _ (s : List ℕ) where
 header-gives : {A : Type 0} (r : Rule) (rest : Got A) → Limits r → headed (bytesOf r) rest ≡ rest
 unfolding headed bytesOf
 header-gives r rest lim =
-    rw (le-ltb (length (bytesOf r)) 4 (omega arith), le-leb 1 (r .variables) (lim .variables-from), le-leb (r .variables) 16 (lim .variables-to), le-leb (r .arguments) (r .variables) (lim .arguments-to), le-leb 1 (size r) (lim .blocks-from), le-leb (size r) 64 (lim .blocks-to))
+    rw (le-ltb (length (bytesOf r)) 4 (omega arith), lim .form-is, le-leb 1 (r .variables) (lim .variables-from), le-leb (r .variables) 16 (lim .variables-to), le-leb (r .arguments) (r .variables) (lim .arguments-to), le-leb 1 (size r) (lim .blocks-from), le-leb (size r) 64 (lim .blocks-to))
 
 pub rule-gives : (r : Rule) → Limits r → ruleOf (bytesOf r) ≡ got r (length (bytesOf r))
 unfolding ruleOf bytesOf

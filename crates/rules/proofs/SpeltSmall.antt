@@ -87,7 +87,7 @@ rule-small r lim =
     let few = lim .variables-to in
     let some = lim .blocks-to in
     small-bytes (bytesOf r) (
-      omega arith,
+      omega (arith, lim .form-is),
       (
         omega arith,
         (

@@ -5,7 +5,7 @@ use mathlib.Core.Path.{_≡_}
 use mathlib.Core.Bool.{Bool, true}
 use mathlib.Core.List.{List, [], _∷_}
 use Rattle.definitions.specs.Rule.{Expr, Cond, Stmt, Set, Emit, End, Stop, Block, Rule, size, blockOf}
-use Rattle.definitions.specs.Grammar.{targetsOf, mostVariables, mostBlocks, variablesIn, argumentsIn, blocksIn}
+use Rattle.definitions.specs.Grammar.{targetsOf, mostVariables, mostBlocks, formIn, variablesIn, argumentsIn, blocksIn}
 use Rattle.definitions.specs.declared.Targets.{Targets}
 use Rattle.definitions.specs.Columns.{reads, looks, endLooks, goesTo, jumpsTo}
 
@@ -51,9 +51,11 @@ noBlock = record { body = []; ending = Stop }
 
 -- of the rule whose bytes are s
 pub record RuleIn (s : List ℕ) (r : Rule) : Type 0 where
+  pub form-stands : r .form ≡ formIn s
   pub variables-are : r .variables ≡ variablesIn s
   pub arguments-are : r .arguments ≡ argumentsIn s
   pub blocks-are : size r ≡ blocksIn s
+  pub form-is : r .form ≡ 1
   pub variables-from : 1 ≤ r .variables
   pub variables-to : r .variables ≤ mostVariables
   pub arguments-to : r .arguments ≤ r .variables

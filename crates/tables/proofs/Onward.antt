@@ -4,9 +4,10 @@ use Prim.Native.Nat.{ℕ, _+_, _*_, _≤_}
 use native.Mathlib.Omega.{arith}
 use native.Mathlib.Nat.{mul-le-mul-right}
 use mathlib.Core.List.{List, [], _∷_, _++_}
+use Rattle.definitions.specs.Values.{Word}
 use Rattle.definitions.specs.Rule.{Rule}
 use Rattle.definitions.specs.Direct.{State, after}
-use Rattle.definitions.specs.Batch.{Word, recordsOf, liveOf, mostOf}
+use Rattle.definitions.specs.Batch.{recordsOf, liveOf, mostOf}
 use Rattle.columns.specs.Proper.{Proper}
 use Rattle.columns.specs.Row.{SoundNow}
 use Rattle.columns.proofs.Rows.{after-add}

@@ -7,30 +7,29 @@ use native.Mathlib.Nat.{mul-le-mul-right}
 use mathlib.Core.List.{List, [], _∷_, _++_, append-assoc, append-nil}
 use lib.ListN.{length, take, drop, length-append, take-append-drop}
 use lib.Seq.{take-at, drop-at, drop-drop}
-use lib.Dec.{eqb}
-use borrow.Author.Tests.{eqb-true, eq-eqb, ne-eqb}
 use Rattle.buffers.specs.Words.{over}
 use Rattle.buffers.proofs.Laws.{drop-over}
+use Rattle.definitions.specs.Values.{Word}
 use Rattle.definitions.specs.Rule.{Rule}
-use Rattle.definitions.specs.Direct.{State}
-use Rattle.definitions.specs.Batch.{Word, goesOn, recordSize, recordOf, recordsOf, linesFrom, liveOf, mostOf}
+use Rattle.definitions.specs.Direct.{State, goesOn}
+use Rattle.definitions.specs.Batch.{recordSize, recordOf, recordsOf, linesFrom, liveOf, mostOf}
 use Rattle.definitions.specs.Finder.{mostRows}
 use Rattle.columns.specs.Row.{SoundNow}
 use Rattle.layouts.specs.Layout.{width, lineIn, linesIn}
 use Rattle.layouts.specs.Rows.{RowAt}
 use Rattle.layouts.proofs.Buffers.{over-mid, part-mid, part-fits, take-over-all}
 use Rattle.layouts.proofs.Looks.{record-length, line-length}
-use Rattle.tables.specs.Table.{Each, mapFrom, Turned, Table, AfterPass}
+use Rattle.tables.specs.Table.{EachRow, mapFrom, Turned, Table, AfterPass}
 use Rattle.tables.specs.declared.Stage.{Stage}
 use Rattle.tables.specs.declared.Standing.{Standing}
 use Rattle.tables.proofs.Rows.{Stepwise, each-left, each-at, each-map, map-append, map-snoc, map-length, records-append, lines-append, live-append, records-length, quiet-lines, quiet-map, live-length, live-less, Next, next, most-more}
 
 -- a line is kept exactly if its row goes on
-pub one-more : (k k' st : ℕ) → st ≡ 0 → k' ≡ k + 1 → k' ≡ k + cond (eqb st 0) 1 0
-one-more k k' st z h = rw (eq-eqb st 0 z) h
+pub one-more : (k k' : ℕ) (on : Bool) → on ≡ true → k' ≡ k + 1 → k' ≡ k + cond on 1 0
+one-more k k' on z h = rw z h
 
-pub no-more : (k k' st : ℕ) → (st ≡ 0 → ⊥) → k' ≡ k → k' ≡ k + cond (eqb st 0) 1 0
-no-more k k' st z h = rw (ne-eqb st 0 z) (omega arith)
+pub no-more : (k k' : ℕ) (on : Bool) → on ≡ false → k' ≡ k → k' ≡ k + cond on 1 0
+no-more k k' on z h = rw z (omega arith)
 
 module _ (r : Rule) (q : ℕ) (g : ℕ → State → State) (b : Standing) (out work : List Word) (t : Table r q (b .live) out work) where
   -- the rows `done` have gone on, and `left` have not. The first `kept` lines are those of the rows done that still go on; from line i on stand those left
@@ -54,7 +53,7 @@ module _ (r : Rule) (q : ℕ) (g : ℕ → State → State) (b : Standing) (out 
     pub done : List State
     pub row : State
     pub more : List State
-    pub going : goesOn row ≡ true
+    pub going : goesOn (row .finish) ≡ true
     pub mid : Mid done (row ∷ more) i kept top out' work'
 
 pub few-live : {r : Rule} {q live : ℕ} {out work : List Word} → Table r q live out work → live ≤ mostRows
@@ -110,9 +109,9 @@ module _ {r : Rule} {q : ℕ} {g : ℕ → State → State} {out work : List Wor
         let k' : At (w .done) (x .done ++ x .row ∷ x .more) i kept top out' work' = rw (x .split) at k in
         record { done = w .done ++ x .done; row = x .row; more = x .more; going = x .going; mid = mid-quiet (w .done) (x .done) (x .row ∷ x .more) (x .quiet) k' }
 
-    module _ (done : List State) (s : State) (more : List State) (on : goesOn s ≡ true) (d : At done (s ∷ more) i kept top out' work') where
+    module _ (done : List State) (s : State) (more : List State) (on : goesOn (s .finish) ≡ true) (d : At done (s ∷ more) i kept top out' work') where
       -- what holds of each row, of this one
-      here-at : (P : ℕ → State → Type 0) → Each P 0 (t .rows) → P (length done) s
+      here-at : (P : ℕ → State → Type 0) → EachRow P 0 (t .rows) → P (length done) s
       here-at P h =
           let e : 0 + length done ≡ length done = omega arith in
           subst (λ (k : ℕ). P k s) e (each-at P 0 done s more (rw (d .split) at h))
@@ -144,16 +143,13 @@ module _ {r : Rule} {q : ℕ} {g : ℕ → State → State} {out work : List Wor
       pub here : take (width r) (drop (i * width r) work') ≡ lineIn r (length done) s
       here = rw first (take-at (lineIn r (length done) s) rest (width r) (line-length r (length done) s))
 
-      pub going : s .status ≡ 0
-      going = eqb-true (s .status) 0 (on)
-
       abbrev row-at : (size : ℕ) → size ≡ width r → RowAt r q (i * size) out' work'
       row-at size e = record {
         row = length done;
         state = s;
         few = omega (arith, t .few, ap length (d .split), length-append done (s ∷ more));
         sound = sound;
-        going = going;
+        going = on;
         line = rw e here;
         record' = rw (d .records, around s) (part-mid (recordsOf q (mapFrom g 0 done)) (recordOf q s) (recordsOf q more ++ t .tail) (length done * recordSize q) (recordSize q) place (record-length r q (s .begun) s sound));
       }
@@ -183,7 +179,7 @@ module _ {r : Rule} {q : ℕ} {g : ℕ → State → State} {out work : List Wor
         again = rw more-done (append-assoc (mapFrom g 0 done) (s' ∷ []) more)
 
         -- its line is kept exactly if it goes on
-        kept-lines : (kept' : ℕ) (b : Bool) → goesOn s' ≡ b → kept' ≡ kept + cond b 1 0 → take (kept' * width r) work'' ≡ linesIn r 0 (mapFrom g 0 done) ++ cond b line []
+        kept-lines : (kept' : ℕ) (b : Bool) → goesOn (s' .finish) ≡ b → kept' ≡ kept + cond b 1 0 → take (kept' * width r) work'' ≡ linesIn r 0 (mapFrom g 0 done) ++ cond b line []
         kept-lines kept' true e k =
             let w : work'' ≡ over work' (kept * width r) line = rw (e, es) at (u .line) in
             let z : kept' * width r ≡ kept * width r + length line = rw k (omega (arith, line-length r (length done) s')) in
@@ -193,13 +189,13 @@ module _ {r : Rule} {q : ℕ} {g : ℕ → State → State} {out work : List Wor
             let z : kept' ≡ kept = omega arith in
             rw (z, w) (d .lines ∙ sym (append-nil (linesIn r 0 (mapFrom g 0 done))))
 
-        tail-line : linesIn r 0 (mapFrom g 0 (done ++ s ∷ [])) ≡ linesIn r 0 (mapFrom g 0 done) ++ cond (goesOn s') line []
+        tail-line : linesIn r 0 (mapFrom g 0 (done ++ s ∷ [])) ≡ linesIn r 0 (mapFrom g 0 done) ++ cond (goesOn (s' .finish)) line []
         unfolding linesFrom
         tail-line =
             let z : 0 + length (mapFrom g 0 done) ≡ length done = omega (arith, map-length g 0 done) in
-            rw more-done (lines-append r 0 (mapFrom g 0 done) (s' ∷ []) ∙ rw (z, append-nil (cond (goesOn s') line [])))
+            rw more-done (lines-append r 0 (mapFrom g 0 done) (s' ∷ []) ∙ rw (z, append-nil (cond (goesOn (s' .finish)) line [])))
 
-        untouched : (b : Bool) → goesOn s' ≡ b → drop ((i + 1) * width r) work'' ≡ drop ((i + 1) * width r) work'
+        untouched : (b : Bool) → goesOn (s' .finish) ≡ b → drop ((i + 1) * width r) work'' ≡ drop ((i + 1) * width r) work'
         untouched true e =
             let w : work'' ≡ over work' (kept * width r) line = rw (e, es) at (u .line) in
             rw w (drop-over work' (kept * width r) line ((i + 1) * width r) room (omega (arith, room, inside)))
@@ -210,15 +206,15 @@ module _ {r : Rule} {q : ℕ} {g : ℕ → State → State} {out work : List Wor
         beyond =
             let e : (i + 1) * width r ≡ i * width r + width r = omega arith in
             let k : length done + 1 ≡ length (done ++ s ∷ []) = omega (arith, length-append done (s ∷ [])) in
-            untouched (goesOn s') refl
+            untouched (goesOn (s' .finish)) refl
             ∙ ap (λ (j : ℕ). drop j work') e ∙ sym (drop-drop (width r) (i * width r) work') ∙ ap (drop (width r)) first
             ∙ drop-at (lineIn r (length done) s) rest (width r) (line-length r (length done) s)
             ∙ ap (λ (j : ℕ). linesIn r j more ++ drop (live * width r) work) k
 
-        turned : (kept' top' : ℕ) → kept' ≡ kept + cond (eqb (h .status) 0) 1 0 → top' ≡ max top (h .begun) → Between r q g b out work t (i + 1) kept' top' out'' work''
+        turned : (kept' top' : ℕ) → kept' ≡ kept + cond (goesOn (h .finish)) 1 0 → top' ≡ max top (h .begun) → Between r q g b out work t (i + 1) kept' top' out'' work''
         unfolding linesFrom liveOf
         turned kept' top' ek et =
-            let ek' : kept' ≡ kept + cond (goesOn s') 1 0 = rw (u .status') at ek in
+            let ek' : kept' ≡ kept + cond (goesOn (s' .finish)) 1 0 = rw (u .finish') at ek in
             record {
               done = done ++ s ∷ [];
               left = more;
@@ -227,7 +223,7 @@ module _ {r : Rule} {q : ℕ} {g : ℕ → State → State} {out work : List Wor
                 records =
                     u .record' ∙ rw (d .records, around s) (over-mid (recordsOf q (mapFrom g 0 done)) (recordOf q s) (recordsOf q more ++ t .tail) (recordOf q s') (length done * recordSize q) place (record-length r q (s' .begun) s' (sw .sound (length done) s sound) ∙ sym (record-length r q (s .begun) s sound)))
                     ∙ sym (around s') ∙ ap (λ (l : List State). recordsOf q l ++ t .tail) (sym again);
-                lines = kept-lines kept' (goesOn s') refl ek' ∙ sym tail-line;
+                lines = kept-lines kept' (goesOn (s' .finish)) refl ek' ∙ sym tail-line;
                 ahead = beyond;
                 count = rw (more-done, live-append) (omega (arith, ek', d .count));
                 passed = rw (live-append, on) (omega (arith, d .passed));
@@ -244,12 +240,12 @@ module _ {r : Rule} {q : ℕ} {g : ℕ → State → State} {out work : List Wor
 
       module _ (size : ℕ) (e : size ≡ width r) where
         -- what holds of each row, of this one
-        pub mid-each : (P : ℕ → State → Type 0) → Each P 0 (t .rows) → P (mid-row size e .row) (mid-row size e .state)
+        pub mid-each : (P : ℕ → State → Type 0) → EachRow P 0 (t .rows) → P (mid-row size e .row) (mid-row size e .state)
         unfolding mid-row
         mid-each = here-at (d .done) (d .row) (d .more) (d .going) (d .mid)
 
         pub mid-turn : (h : Stage) (out'' work'' : List Word) → Turned r q (mid-row size e .row) (kept * size) (g (mid-row size e .row) (mid-row size e .state)) out' work' h out'' work''
-            → (kept' top' : ℕ) → kept' ≡ kept + cond (eqb (h .status) 0) 1 0 → top' ≡ max top (h .begun) → Between r q g b out work t (i + 1) kept' top' out'' work''
+            → (kept' top' : ℕ) → kept' ≡ kept + cond (goesOn (h .finish)) 1 0 → top' ≡ max top (h .begun) → Between r q g b out work t (i + 1) kept' top' out'' work''
         unfolding mid-row
         mid-turn = turned (d .done) (d .row) (d .more) (d .going) (d .mid) size e
 

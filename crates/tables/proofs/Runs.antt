@@ -1,5 +1,6 @@
 -- A whole call: its tests, and the rows from their start on. Assumes nothing.
 use mathlib.Core.Path.{_≡_, sym, ap, _∙_}
+use mathlib.Core.Bool.{true}
 use Prim.Native.Nat.{ℕ, _+_, _-_, _*_, _≤_}
 use native.Mathlib.Omega.{arith}
 use mathlib.Core.List.{List, _++_, append-assoc}
@@ -7,11 +8,11 @@ use lib.IntN.{pos}
 use lib.ListN.{length, drop, replicate, length-append, length-replicate, length-map}
 use lib.Seq.{take-at, drop-at}
 use Rattle.buffers.specs.Words.{over}
-use Rattle.definitions.specs.Values.{Val}
+use Rattle.definitions.specs.Values.{Word}
 use Rattle.definitions.specs.Rule.{Rule}
 use Rattle.definitions.specs.Columns.{flowOf, LC}
-use Rattle.definitions.specs.Direct.{State, after}
-use Rattle.definitions.specs.Batch.{Word, recordSize, recordsOf, liveOf, mostOf, startsOf, statesOf, tableOf}
+use Rattle.definitions.specs.Direct.{State, after, goesOn}
+use Rattle.definitions.specs.Batch.{recordSize, recordsOf, liveOf, mostOf, startsOf, statesOf, tableOf}
 use Rattle.definitions.specs.Finder.{mostRows}
 use Rattle.definitions.specs.Calls.{mostBudget}
 use Rattle.columns.specs.Proper.{Proper}
@@ -26,7 +27,7 @@ use Rattle.tables.proofs.Rows.{each-map, map-same, lines-length, live-l
 use Rattle.tables.proofs.Starts.{starts-each, starts-length, starts-live, starts-most, starts-sound, starts-wide}
 use Rattle.tables.proofs.Turns.{step}
 
-module _ (r : Rule) (ok : Proper r) (values : List Val) (e : Extent) (q : ℕ) where
+module _ (r : Rule) (ok : Proper r) (values : List Word) (e : Extent) (q : ℕ) where
   abbrev rows : ℕ
   rows = e .rows
 
@@ -77,7 +78,7 @@ module _ (r : Rule) (ok : Proper r) (values : List Val) (e : Extent) (q : ℕ) w
     }
 
     abbrev pub may-begin : N ≤ mostBudget → RowsMayBegin (λ _. N) r q rows out1 work1
-    may-begin h = record { table = table; room = starts-each r values (λ i s. s .status ≡ 0 → s .begun + N ≤ mostBudget) (λ i _. omega arith) rows }
+    may-begin h = record { table = table; room = starts-each r values (λ i s. goesOn (s .finish) ≡ true → s .begun + N ≤ mostBudget) (λ i _. omega arith) rows }
 
     module _ (a : Standing) (out2 work2 : List Word) (p : AfterPass r q (record { live = rows; most = 0 }) out1 work1 table (λ _. after r q N) a out2 work2) where
       abbrev live : ℕ

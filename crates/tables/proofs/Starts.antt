@@ -9,12 +9,13 @@ use lib.ListN.{length, take, drop, getD, replicate, length-append, length-take, 
 use lib.Seq.{drop-drop, getD-drop}
 use Rattle.buffers.specs.Words.{over}
 use Rattle.buffers.proofs.Laws.{over-start}
-use Rattle.definitions.specs.Values.{Val}
+use Rattle.definitions.specs.Values.{Word, Val, number, valuesIn, wordsOf, unset}
 use Rattle.definitions.specs.Rule.{Rule}
 use Rattle.definitions.specs.Columns.{flowOf, LC}
 use Rattle.definitions.specs.Plan.{bitOf}
 use Rattle.definitions.specs.Direct.{State, start}
-use Rattle.definitions.specs.Batch.{Word, recordSize, recordOf, recordsOf, linesFrom, liveOf, mostOf, startAt, startsOf, columnsOf}
+use Rattle.definitions.specs.Batch.{recordSize, recordOf, recordsOf, linesFrom, liveOf, mostOf, startAt, startsOf, columnsOf}
+use Rattle.definitions.proofs.Values.{values-length, values-append, value-at}
 use Rattle.definitions.specs.Grammar.{mostVariables}
 use Rattle.definitions.specs.Finder.{mostRows}
 use Rattle.columns.specs.Proper.{Proper}
@@ -26,11 +27,11 @@ use Rattle.layouts.specs.declared.Layout.{Layout}
 use Rattle.layouts.proofs.Sizes.{item-in, values-low}
 use Rattle.layouts.proofs.Buffers.{over-is, over-seam}
 use Rattle.layouts.proofs.Looks.{line-length, columns-mask}
-use Rattle.tables.specs.Table.{Each}
+use Rattle.tables.specs.Table.{EachRow}
 use Rattle.tables.specs.Runs.{ToStart, Started}
 use Rattle.tables.proofs.Rows.{records-append, lines-append, live-append, lines-length, each-snoc, most-append}
 
-module _ (r : Rule) (values : List Val) where
+module _ (r : Rule) (values : List Word) where
   pub starts-length : (n : ℕ) → length (startsOf r values n) ≡ n
   unfolding startsOf
   starts-length zero = refl
@@ -47,16 +48,16 @@ module _ (r : Rule) (values : List Val) where
   starts-most (suc n) = most-append (startsOf r values n) (startAt r values n ∷ []) ∙ omega (arith, starts-most n)
 
   -- what holds of each row at its start
-  pub starts-each : (P : ℕ → State → Type 0) → ((i : ℕ) → P i (startAt r values i)) → (n : ℕ) → Each P 0 (startsOf r values n)
-  unfolding startsOf Each
+  pub starts-each : (P : ℕ → State → Type 0) → ((i : ℕ) → P i (startAt r values i)) → (n : ℕ) → EachRow P 0 (startsOf r values n)
+  unfolding startsOf EachRow
   starts-each P h zero = tt
   starts-each P h (suc n) = each-snoc P 0 (startsOf r values n) (startAt r values n) (starts-each P h n) (
       let e : n ≡ 0 + length (startsOf r values n) = omega (arith, starts-length n) in
       subst (λ (i : ℕ). P i (startAt r values n)) e (h n)
       )
 
-  pub starts-sound : Proper r → (q n : ℕ) → Each (λ _ s. SoundNow r q s) 0 (startsOf r values n)
-  starts-sound ok q = starts-each (λ _ s. SoundNow r q s) (λ i. start-sound r q ok (take (r .arguments) (drop (i * r .arguments) values)) (omega (arith, ok .given, length-take (r .arguments) (drop (i * r .arguments) values))))
+  pub starts-sound : Proper r → (q n : ℕ) → EachRow (λ _ s. SoundNow r q s) 0 (startsOf r values n)
+  starts-sound ok q = starts-each (λ _ s. SoundNow r q s) (λ i. start-sound r q ok (valuesIn (take (r .arguments) (drop (i * r .arguments) values))) (omega (arith, ok .given, values-length (take (r .arguments) (drop (i * r .arguments) values)), length-take (r .arguments) (drop (i * r .arguments) values))))
 
   -- the records are zeros
   zeros : (q n : ℕ) → recordOf q (startAt r values n) ≡ replicate (recordSize q) (pos 0)
@@ -90,35 +91,43 @@ module _ (r : Rule) (values : List Val) where
   pub starts-wide : (n : ℕ) → length (linesIn r 0 (startsOf r values n)) ≡ n * width r
   starts-wide n = lines-length r 0 (startsOf r values n) ∙ rw (starts-live n)
 
--- ---- variables that are followed by zeros
+-- ---- words that are followed by zeros
 zero-at : (m k : ℕ) → getD (replicate m (pos 0)) k (pos 0) ≡ pos 0
 zero-at zero k = refl
 zero-at (suc m) zero = refl
 zero-at (suc m) (suc k) = zero-at m k
 
-padded : (xs ys : List Val) (k : ℕ) → ((i : ℕ) → getD ys i (pos 0) ≡ pos 0) → getD (xs ++ ys) k (pos 0) ≡ getD xs k (pos 0)
+unset-at : (m k : ℕ) → getD (replicate m unset) k unset ≡ unset
+unset-at zero k = refl
+unset-at (suc m) zero = refl
+unset-at (suc m) (suc k) = unset-at m k
+
+padded : (xs ys : List Val) (k : ℕ) → ((i : ℕ) → getD ys i unset ≡ unset) → getD (xs ++ ys) k unset ≡ getD xs k unset
 padded [] ys k h = h k
 padded (x ∷ xs) ys zero h = refl
 padded (x ∷ xs) ys (suc k) h = padded xs ys k h
 
--- the variables of a row at its start, as they are fetched
-start-alike : (r : Rule) (ok : Proper r) (args : List Val) → length args ≤ r .variables → Alike (r .variables) (LC (flowOf r)) (start r args .vars) (inArray args)
-start-alike r ok args h =
-    rw (over-start (replicate mostVariables (pos 0)) args) record {
-      left = omega (arith, length-append args (replicate (r .variables - length args) (pos 0)), length-replicate (r .variables - length args) (pos 0));
-      right = omega (arith, ok .few, length-append args (drop (length args) (replicate mostVariables (pos 0))), length-drop (length args) (replicate mostVariables (pos 0)));
+-- the variables of a row at its start, as the words of its arguments are fetched
+start-alike : (r : Rule) (ok : Proper r) (ws : List Word) → length ws ≤ r .variables → Alike (r .variables) (LC (flowOf r)) (start r (valuesIn ws) .vars) (valuesIn (inArray ws))
+start-alike r ok ws h =
+    let args = valuesIn ws in
+    let zeros = drop (length ws) (replicate mostVariables (pos 0)) in
+    let size = values-length ws in
+    rw (over-start (replicate mostVariables (pos 0)) ws, values-append ws zeros) record {
+      left = omega (arith, size, length-append args (replicate (r .variables - length args) unset), length-replicate (r .variables - length args) unset);
+      right = omega (arith, ok .few, size, length-append args (valuesIn zeros), values-length zeros, length-drop (length ws) (replicate mostVariables (pos 0)));
       same = λ k _ _.
-          padded args (replicate (r .variables - length args) (pos 0)) k (zero-at (r .variables - length args))
-          ∙ sym (padded args (drop (length args) (replicate mostVariables (pos 0))) k (λ i. getD-drop (length args) (replicate mostVariables (pos 0)) i (pos 0) ∙ zero-at mostVariables (length args + i)));
+          padded args (replicate (r .variables - length args) unset) k (unset-at (r .variables - length args))
+          ∙ sym (padded args (valuesIn zeros) k (λ i. value-at zeros i ∙ ap number (getD-drop (length ws) (replicate mostVariables (pos 0)) i (pos 0) ∙ zero-at mostVariables (length ws + i))));
     }
 
-fetched-start : (r : Rule) → Proper r → (values vars : List Val) (a n : ℕ) → a ≡ r .arguments → vars ≡ inArray (take a (drop (n * a) values))
-    → Alike (r .variables) (LC (flowOf r)) (startAt r values n .vars) vars
+fetched-start : (r : Rule) → Proper r → (values vars : List Word) (a n : ℕ) → a ≡ r .arguments → vars ≡ inArray (take a (drop (n * a) values))
+    → Alike (r .variables) (LC (flowOf r)) (startAt r values n .vars) (valuesIn vars)
 fetched-start r ok values vars a n ea ev =
     rw (ev, ea) (start-alike r ok (take (r .arguments) (drop (n * r .arguments) values)) (omega (arith, ok .given, length-take (r .arguments) (drop (n * r .arguments) values))))
 
 -- ---- what the code puts into the working buffer
-module _ {l : Layout} {rows : ℕ} {values : List Val} {work : List Word} (p : ToStart l rows values work) where
+module _ {l : Layout} {rows : ℕ} {values : List Word} {work : List Word} (p : ToStart l rows values work) where
   abbrev r : Rule
   r = p .rule
 
@@ -140,13 +149,13 @@ module _ {l : Layout} {rows : ℕ} {values : List Val} {work : List Word} (p : T
     line-fits = omega (arith, item-in n rows (l .size) h, p .table)
 
     -- a fresh line
-    fresh : (vars : List Val) → vars ≡ inArray (take (l .arguments) (drop (n * l .arguments) values)) → pos n ∷ pos 0 ∷ columnsOf (l .variables) (bitOf (l .lc)) vars ≡ lineIn r n (startAt r values n)
+    fresh : (vars : List Word) → vars ≡ inArray (take (l .arguments) (drop (n * l .arguments) values)) → pos n ∷ pos 0 ∷ wordsOf (columnsOf (l .variables) (bitOf (l .lc)) (valuesIn vars)) ≡ lineIn r n (startAt r values n)
     fresh vars e =
-        ap (λ (c : List Word). pos n ∷ pos 0 ∷ c) (columns-mask (p .known) (startAt r values n .vars) vars (fetched-start r (p .known .proper) values vars (l .arguments) n (p .known .arguments) e))
+        ap (λ (c : List Val). pos n ∷ pos 0 ∷ wordsOf c) (columns-mask (p .known) (startAt r values n .vars) (valuesIn vars) (fetched-start r (p .known .proper) values vars (l .arguments) n (p .known .arguments) e))
 
     -- one more line
     pub starts-line : (now now' vars : List Word) → Started r values n work now
-        → vars ≡ inArray (take (l .arguments) (drop (n * l .arguments) values)) → now' ≡ over now (n * l .size) (pos n ∷ pos 0 ∷ columnsOf (l .variables) (bitOf (l .lc)) vars)
+        → vars ≡ inArray (take (l .arguments) (drop (n * l .arguments) values)) → now' ≡ over now (n * l .size) (pos n ∷ pos 0 ∷ wordsOf (columnsOf (l .variables) (bitOf (l .lc)) (valuesIn vars)))
         → Started r values (n + 1) work now'
     starts-line now now' vars e ev ew =
         let x : List Word = lineIn r n (startAt r values n) in

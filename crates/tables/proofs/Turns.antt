@@ -6,16 +6,16 @@ use native.Mathlib.Omega.{arith}
 use mathlib.Core.List.{List, _∷_, _++_}
 use lib.IntN.{pos}
 use lib.ListN.{length, take, replicate}
-use borrow.Author.Tests.{eq-eqb, ne-eqb}
 use Rattle.buffers.specs.Words.{over}
-use Rattle.definitions.specs.Values.{Val}
+use Rattle.definitions.specs.Values.{Word, valuesIn, wordsOf}
 use Rattle.definitions.specs.Rule.{Rule}
 use Rattle.definitions.specs.Columns.{flowOf, LC}
 use Rattle.definitions.specs.Plan.{bitOf}
-use Rattle.definitions.specs.Direct.{State, Round, jumped, finished, joined, advance, after}
-use Rattle.definitions.specs.Batch.{Word, goesOn, recordSize, recordOf, countTo, lineSize, columnsOf}
+use Rattle.definitions.specs.Direct.{State, Round, jumped, finished, joined, advance, after, goesOn}
+use Rattle.definitions.specs.Batch.{recordSize, recordOf, countTo, lineSize, columnsOf}
 use Rattle.definitions.specs.Finder.{mostRows, mostColumns}
 use Rattle.definitions.specs.Calls.{mostBudget}
+use Rattle.definitions.proofs.Values.{words-again}
 use Rattle.definitions.proofs.Counts.{count-le}
 use Rattle.columns.specs.Proper.{Proper}
 use Rattle.columns.specs.Row.{Sound}
@@ -35,12 +35,12 @@ use Rattle.tables.proofs.Rows.{Stepwise}
 module _ (r : Rule) (q : ℕ) where
   joined-more : (s : State) (R : Round) → s .begun ≤ joined s R .begun
   joined-more s (jumped b env ls) = omega arith
-  joined-more s (finished st ls) = omega arith
+  joined-more s (finished how ls) = omega arith
 
   advance-more : (s : State) → s .begun ≤ advance r q s .begun
-  advance-more s = go (goesOn s) refl
+  advance-more s = go (goesOn (s .finish)) refl
     where
-      go : (b : Bool) → goesOn s ≡ b → s .begun ≤ advance r q s .begun
+      go : (b : Bool) → goesOn (s .finish) ≡ b → s .begun ≤ advance r q s .begun
       go true e = rw (advance-on r q s e) (joined-more s (roundOf r q s))
       go false e = rw (advance-done r q s e) (omega arith)
 
@@ -80,7 +80,7 @@ module _ {r : Rule} {l : Layout} {from : ℕ} {out work : List Word} (kn : Known
   pub row-few : row .row < mostRows
   row-few = omega (arith, lk .row, k .few)
 
-  module _ (N : ℕ) {c : Progress} {labels vars : List Val} (w : ProgressTo r (k .state) (after r q N (k .state)) c labels vars) where
+  module _ (N : ℕ) {c : Progress} {labels vars : List Word} (w : ProgressTo r (k .state) (after r q N (k .state)) c labels vars) where
     abbrev s' : State
     s' = after r q N (k .state)
 
@@ -98,27 +98,29 @@ module _ {r : Rule} {l : Layout} {from : ℕ} {out work : List Word} (kn : Known
 
     -- the record
     module _ (at : ℕ) (ea : at ≡ row .row * recordSize q) (out' : List Word)
-        (eo : out' ≡ over out at (pos (c .status) ∷ pos (row .begun + c .rounds) ∷ pos (c .count) ∷ (take (c .count) labels ++ replicate (q - c .count) (pos 0)))) where
+        (eo : out' ≡ over out at (pos (c .finish .status) ∷ pos (row .begun + c .rounds) ∷ pos (c .count) ∷ (take (c .count) labels ++ replicate (q - c .count) (pos 0)))) where
       its-record : out' ≡ over out (k .row * recordSize q) (recordOf q s')
-      its-record = eo ∙ rw (ea, lk .row, begun-is, w .status, w .labels', w .count)
+      its-record =
+          let ls : take (c .count) labels ≡ wordsOf (s' .labels) = sym (words-again (take (c .count) labels)) ∙ ap wordsOf (w .labels') in
+          eo ∙ rw (ea, lk .row, begun-is, w .finish, ls, w .count)
 
       -- it has ended
-      pub turned-off : (to : ℕ) → (c .status ≡ 0 → ⊥) → Turned r q (k .row) to s' out work (record { status = c .status; begun = row .begun + c .rounds }) out' work
+      pub turned-off : (to : ℕ) → goesOn (c .finish) ≡ false → Turned r q (k .row) to s' out work (record { finish = c .finish; begun = row .begun + c .rounds }) out' work
       turned-off to z = record {
-        status' = w .status;
+        finish' = w .finish;
         begun' = begun-is;
         record' = its-record;
-        line = rw (ne-eqb (s' .status) 0 (λ e. z (w .status ∙ e)));
+        line = rw (ap goesOn (sym (w .finish)) ∙ z);
       }
 
       -- it goes on
-      pub turned-on : (to : ℕ) (work' : List Word) → c .status ≡ 0 → work' ≡ over work to (pos (row .row) ∷ pos (c .block) ∷ columnsOf (l .variables) (bitOf (l .lc)) vars)
-          → Turned r q (k .row) to s' out work (record { status = c .status; begun = row .begun + c .rounds }) out' work'
+      pub turned-on : (to : ℕ) (work' : List Word) → goesOn (c .finish) ≡ true → work' ≡ over work to (pos (row .row) ∷ pos (c .block) ∷ wordsOf (columnsOf (l .variables) (bitOf (l .lc)) (valuesIn vars)))
+          → Turned r q (k .row) to s' out work (record { finish = c .finish; begun = row .begun + c .rounds }) out' work'
       turned-on to work' z ew =
-          let on : s' .status ≡ 0 = sym (w .status) ∙ z in
+          let on : goesOn (s' .finish) ≡ true = ap goesOn (sym (w .finish)) ∙ z in
           record {
-            status' = w .status;
+            finish' = w .finish;
             begun' = begun-is;
             record' = its-record;
-            line = rw (eq-eqb (s' .status) 0 on) (ew ∙ rw (lk .row, w .block on, columns-mask kn (s' .vars) vars (w .vars' on)));
+            line = rw on (ew ∙ rw (lk .row, w .block on, columns-mask kn (s' .vars) (valuesIn vars) (w .vars' on)));
           }

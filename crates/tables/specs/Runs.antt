@@ -3,10 +3,10 @@ use Prim.Native.Nat.{ℕ, _*_, _≤_}
 use mathlib.Core.Path.{_≡_}
 use mathlib.Core.List.{List, _++_}
 use lib.ListN.{length, drop}
-use Rattle.definitions.specs.Values.{Val}
+use Rattle.definitions.specs.Values.{Word}
 use Rattle.definitions.specs.Rule.{Rule}
 use Rattle.definitions.specs.Columns.{flowOf, LC}
-use Rattle.definitions.specs.Batch.{Word, recordSize, startsOf, statesOf, recordsOf, tableOf, mostOf}
+use Rattle.definitions.specs.Batch.{recordSize, startsOf, statesOf, recordsOf, tableOf, mostOf}
 use Rattle.definitions.specs.Finder.{mostRows, mostQuota}
 use Rattle.definitions.specs.Calls.{mostBudget, left}
 use Rattle.definitions.specs.declared.Reply.the-variants.{Done}
@@ -24,7 +24,7 @@ pub record Allowed (l : Layout) (e : Extent) (values out work : ℕ) : Type 0 wh
   pub table : e .rows * l .size ≤ work
 
 -- a rule's rows that are to be put into the working buffer
-pub record ToStart (l : Layout) (rows : ℕ) (values : List Val) (work : List Word) : Type 0 where
+pub record ToStart (l : Layout) (rows : ℕ) (values : List Word) (work : List Word) : Type 0 where
   pub rule : Rule
   pub known : Known rule l
   pub few : rows ≤ mostRows
@@ -32,11 +32,11 @@ pub record ToStart (l : Layout) (rows : ℕ) (values : List Val) (work : List Wo
   pub table : rows * l .size ≤ length work
 
 -- the first n rows at their start, and behind them what stood there
-abbrev pub Started : Rule → List Val → ℕ → List Word → List Word → Type 0
+abbrev pub Started : Rule → List Word → ℕ → List Word → List Word → Type 0
 Started r values n work work' = work' ≡ linesIn r 0 (startsOf r values n) ++ drop (n * width r) work
 
 -- what a run leaves: the direct run's rows
-pub record RowsRun (r : Rule) (values : List Val) (e : Extent) (q : ℕ) (out work : List Word) (most : ℕ) (out' work' : List Word) : Type 0 where
+pub record RowsRun (r : Rule) (values : List Word) (e : Extent) (q : ℕ) (out work : List Word) (most : ℕ) (out' work' : List Word) : Type 0 where
   pub most' : most ≡ mostOf (statesOf r values (e .rows) (e .budget) q)
   pub records : out' ≡ left (Done most) (recordsOf q (statesOf r values (e .rows) (e .budget) q)) out
   pub table : work' ≡ left (Done most) (tableOf (r .variables) (LC (flowOf r)) (statesOf r values (e .rows) (e .budget) q)) work

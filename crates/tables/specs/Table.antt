@@ -1,14 +1,15 @@
--- The rows of a batch in its two buffers, as the code finds and leaves them. Each of these holds for every rows that stand there.
+-- The rows of a batch in its two buffers, as the code finds and leaves them. EachRow of these holds for every rows that stand there.
 use Prim.Native.Nat.{ℕ, _+_, _*_, _≤_}
 use mathlib.Core.Path.{_≡_}
-use mathlib.Core.Bool.{cond}
+use mathlib.Core.Bool.{true, cond}
 use mathlib.Core.List.{List, [], _∷_, _++_}
 use lib.ListN.{length, take, drop}
 use Prim.{Unit}
 use Rattle.buffers.specs.Words.{over}
+use Rattle.definitions.specs.Values.{Word}
 use Rattle.definitions.specs.Rule.{Rule}
-use Rattle.definitions.specs.Direct.{State, unfinished}
-use Rattle.definitions.specs.Batch.{Word, recordSize, recordOf, recordsOf, goesOn, liveOf, mostOf}
+use Rattle.definitions.specs.Direct.{State, goesOn}
+use Rattle.definitions.specs.Batch.{recordSize, recordOf, recordsOf, liveOf, mostOf}
 use Rattle.definitions.specs.Finder.{mostRows}
 use Rattle.definitions.specs.Calls.{mostBudget}
 use Rattle.columns.specs.Row.{SoundNow}
@@ -26,17 +27,17 @@ pub record RowMayBegin (N : ℕ) (r : Rule) (q from : ℕ) (out work : List Word
 
 -- what is left when row `row` has gone on to s: its record, and its line at `to` if it still goes on
 pub record Turned (r : Rule) (q row to : ℕ) (s : State) (out work : List Word) (g : Stage) (out' work' : List Word) : Type 0 where
-  pub status' : g .status ≡ s .status
+  pub finish' : g .finish ≡ s .finish
   pub begun' : g .begun ≡ s .begun
   pub record' : out' ≡ over out (row * recordSize q) (recordOf q s)
-  pub line : work' ≡ cond (goesOn s) (over work to (lineIn r row s)) work
+  pub line : work' ≡ cond (goesOn (s .finish)) (over work to (lineIn r row s)) work
 
 -- ---- all rows, which are numbered from k on
 
 -- what holds of each row and its number
-unfoldable pub Each : (ℕ → State → Type 0) → ℕ → List State → Type 0
-Each P k [] = Unit {0}
-Each P k (s ∷ ss) = P k s × Each P (k + 1) ss
+unfoldable pub EachRow : (ℕ → State → Type 0) → ℕ → List State → Type 0
+EachRow P k [] = Unit {0}
+EachRow P k (s ∷ ss) = P k s × EachRow P (k + 1) ss
 
 -- the rows, each gone on by the step of its number
 unfoldable pub mapFrom : (ℕ → State → State) → ℕ → List State → List State
@@ -48,7 +49,7 @@ pub record Table (r : Rule) (q live : ℕ) (out work : List Word) : Type 0 where
   pub rows : List State
   pub tail : List Word
   pub few : length rows ≤ mostRows
-  pub sound : Each (λ _ s. SoundNow r q s) 0 rows
+  pub sound : EachRow (λ _ s. SoundNow r q s) 0 rows
   pub records : out ≡ recordsOf q rows ++ tail
   pub lines : take (live * width r) work ≡ linesIn r 0 rows
   pub count : live ≡ liveOf rows
@@ -56,7 +57,7 @@ pub record Table (r : Rule) (q live : ℕ) (out work : List Word) : Type 0 where
 -- such rows, of which row i, while it goes on, may begin N i rounds more
 pub record RowsMayBegin (N : ℕ → ℕ) (r : Rule) (q live : ℕ) (out work : List Word) : Type 0 where
   pub table : Table r q live out work
-  pub room : Each (λ i s. s .status ≡ unfinished → s .begun + N i ≤ mostBudget) 0 (table .rows)
+  pub room : EachRow (λ i s. goesOn (s .finish) ≡ true → s .begun + N i ≤ mostBudget) 0 (table .rows)
 
 -- what is left when row i has gone on by g i
 pub record AfterPass (r : Rule) (q : ℕ) (b : Standing) (out work : List Word) (t : Table r q (b .live) out work) (g : ℕ → State → State) (a : Standing) (out' work' : List Word) : Type 0 where

@@ -10,6 +10,8 @@ ghost use Rattle.tables.specs.Table.{RowMayBegin, Turned, Table, RowsMay
 ghost use Rattle.tables.specs.Runs.{Allowed, ToStart, Started, RowsRun};
 use carries::Spot;
 use carries::carry;
+use definitions::Finish;
+use definitions::goes_on;
 use layouts::Layout;
 use layouts::fetch;
 use layouts::put_line;
@@ -28,7 +30,7 @@ pub struct Move {
 
 // How far a row has come.
 pub struct Stage {
-    pub status: u8,
+    pub finish: Finish,
     pub begun: usize,
 }
 
@@ -58,14 +60,12 @@ fn turn(
     let c = carry(plan, rule, l.quota, budget, spot, &mut labels, &mut vars);
     let begun = row.begun + c.rounds;
     let at = record_at(row.row, l.quota);
-    put_record(out, at, l.quota, c.status, begun, c.count, &labels);
-    if c.status == 0 {
+    let finish = c.finish;
+    put_record(out, at, l.quota, finish, begun, c.count, &labels);
+    if goes_on(finish) {
         put_line(work, m.to, row.row, c.block, l.variables, l.lc, &vars);
     }
-    Stage {
-        status: c.status,
-        begun,
-    }
+    Stage { finish, begun }
 }
 
 // ---- all rows
@@ -105,7 +105,7 @@ fn pass(
         if top < s.begun {
             top = s.begun;
         }
-        if s.status == 0 {
+        if goes_on(s.finish) {
             kept += 1;
         }
         i += 1;

@@ -3,7 +3,7 @@ use Prim.Native.Nat.{ℕ, _+_, _*_, _≤_, _<_}
 use native.Mathlib.Omega.{arith}
 use mathlib.Core.Path.{_≡_, sym, ap, _∙_}
 use mathlib.Core.List.{List}
-use Rattle.definitions.specs.Batch.{Word}
+use Rattle.definitions.specs.Values.{Word}
 use Rattle.definitions.specs.Grammar.{Got}
 use Rattle.definitions.specs.Calls.{refusal, Wrote, Batch, Ran}
 use Rattle.definitions.specs.declared.Refusal.{Refusal}

@@ -4,13 +4,13 @@ use native.Mathlib.Omega.{arith}
 use mathlib.Core.Path.{_≡_}
 use mathlib.Core.List.{List}
 use denote.Ref.{RefT}
-use Rattle.definitions.specs.Batch.{Word}
+use Rattle.definitions.specs.Values.{Word}
 use Rattle.definitions.specs.declared.Place.{Place}
 use Rattle.definitions.specs.declared.Place.the-variants.{InResult, InWork, Nowhere}
 use Rattle.finder.specs.Place.{placeIn}
 use Rattle.finder.proofs.Places.{Lying, lying}
 use Rattle.tap.specs.Packed.{half}
-use Rattle.tap.specs.Place.{firstWord, placed}
+use Rattle.tap.specs.Place.{firstWord, placeWord}
 
 first-low : (result work : List Word) (quota columns : ℕ) (p : Place) → Lying result work quota columns p → firstWord p < half
 unfolding Lying firstWord
@@ -23,12 +23,12 @@ pub place-low : (result work : RefT (List Word)) (rows quota columns row : ℕ) 
 place-low result work rows quota columns row p e = rw e (first-low (result .now) (work .now) quota columns _ (lying result work rows quota columns row))
 
 module _ (p : Place) (at : ℕ) where
-  pub pack-result : p ≡ InResult at → half + at ≡ placed p
-  unfolding placed
+  pub pack-result : p ≡ InResult at → half + at ≡ placeWord p
+  unfolding placeWord
   pack-result e = rw e
 
-  pub pack-work : p ≡ InWork at → 2 * half + at ≡ placed p
-  unfolding placed
+  pub pack-work : p ≡ InWork at → 2 * half + at ≡ placeWord p
+  unfolding placeWord
   pack-work e = rw e
 
   pub room-result : p ≡ InResult at → firstWord p < half → at < half
@@ -39,6 +39,6 @@ module _ (p : Place) (at : ℕ) where
   unfolding firstWord
   room-work e h = rw e at h
 
-pub pack-nowhere : (p : Place) → p ≡ Nowhere → 0 ≡ placed p
-unfolding placed
+pub pack-nowhere : (p : Place) → p ≡ Nowhere → 0 ≡ placeWord p
+unfolding placeWord
 pack-nowhere p e = rw e

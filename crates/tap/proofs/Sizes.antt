@@ -9,9 +9,9 @@ use lib.Dec.{ltb, eqb}
 use lib.ListN.{length, length-append, length-take, length-drop}
 use borrow.Author.Tests.{ltb-false}
 use Rattle.definitions.specs.Rule.{Rule, size}
-use Rattle.definitions.specs.Values.{Val}
-use Rattle.definitions.specs.Direct.{State, unfinished, Round, jumped, finished, walk, joined, advance, after}
-use Rattle.definitions.specs.Batch.{Word, recordSize, lineSize, startAt, startsOf, statesOf, mostOf}
+use Rattle.definitions.specs.Values.{Word}
+use Rattle.definitions.specs.Direct.{State, goesOn, Round, jumped, finished, walk, joined, advance, after}
+use Rattle.definitions.specs.Batch.{recordSize, lineSize, startAt, startsOf, statesOf, mostOf}
 use Rattle.definitions.specs.Grammar.{Got, got, refused, then, ruleOf, longest}
 use Rattle.definitions.specs.Pages.{mostPages, pageSize, lengthIn, checkIn, checkOf, pageIn, payloadOf, lengthOk, fillerOk, sizeOk, pageAt, payloadTo, unpacked, fileOf}
 use Rattle.definitions.specs.Calls.{refusal, toRead, toWrite, toCompile, replyIn, Wrote, Batch, Ran, ranReply, runReply, rowsOf, columns, mostBudget}
@@ -129,11 +129,11 @@ compile-within file =
 module _ (r : Rule) (q : ℕ) where
   one-more : (s : State) → advance r q s .begun ≤ s .begun + 1
   unfolding advance
-  one-more s = go (eqb (s .status) unfinished) (walk (size r) r q (s .block) (s .vars) (s .labels))
+  one-more s = go (goesOn (s .finish)) (walk (size r) r q (s .block) (s .vars) (s .labels))
     where
       go : (b : Bool) (w : Round) → cond b (joined s w) s .begun ≤ s .begun + 1
       go true (jumped t env ls) = omega arith
-      go true (finished st ls) = omega arith
+      go true (finished how ls) = omega arith
       go false w = omega arith
 
   began : (n : ℕ) (s : State) → after r q n s .begun ≤ s .begun + n
@@ -142,14 +142,14 @@ module _ (r : Rule) (q : ℕ) where
   began (suc n) s = omega (arith, one-more (after r q n s), began n s)
 
   -- no row begins more rounds than the budget, whatever the order in which rows are added
-  most-began : (values : List Val) (N rows : ℕ) (more : List State) → mostOf (map (after r q N) more) ≤ N → mostOf (map (after r q N) (startsOf r values rows ++ more)) ≤ N
+  most-began : (values : List Word) (N rows : ℕ) (more : List State) → mostOf (map (after r q N) more) ≤ N → mostOf (map (after r q N) (startsOf r values rows ++ more)) ≤ N
   unfolding startsOf mostOf
   most-began values N zero more h = h
   most-began values N (suc n) more h =
       let b : after r q N (startAt r values n) .begun ≤ N = omega (arith, began N (startAt r values n)) in
       rw append-assoc (most-began values N n (startAt r values n ∷ more) (max-le b h))
 
-  pub most-few : (values : List Val) (N rows : ℕ) → mostOf (statesOf r values rows N q) ≤ N
+  pub most-few : (values : List Word) (N rows : ℕ) → mostOf (statesOf r values rows N q) ≤ N
   unfolding mostOf
   most-few values N rows = rw (append-nil (startsOf r values rows)) at (most-began values N rows [] (omega arith))
 

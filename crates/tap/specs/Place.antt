@@ -11,7 +11,7 @@ firstWord (InWork at) = at
 firstWord Nowhere = 0
 
 -- the upper 32 bits are the buffer's number, the lower the part's first word; 0 for no part
-unfoldable pub placed : Place → ℕ
-placed (InResult at) = half + at
-placed (InWork at) = 2 * half + at
-placed Nowhere = 0
+unfoldable pub placeWord : Place → ℕ
+placeWord (InResult at) = half + at
+placeWord (InWork at) = 2 * half + at
+placeWord Nowhere = 0

@@ -5,7 +5,7 @@ ghost use Rattle.definitions.specs.Calls.{Wrote, Ran, toRead, toWrite, toCompil
 ghost use Prim.Native.Nat.{_<_};
 ghost use Rattle.finder.specs.Place.{placeIn};
 ghost use Rattle.tap.specs.Packed.{half, packed, Clear, Stands};
-ghost use Rattle.tap.specs.Place.{firstWord, placed};
+ghost use Rattle.tap.specs.Place.{firstWord, placeWord};
 use definitions::Place;
 use definitions::Reply;
 
@@ -95,7 +95,7 @@ pub extern "C" fn tap_run(
 // A place in 64 bits.
 fn pack_place(p: Place) -> u64
     requires { ⌜ firstWord p < half ⌝ }
-    ensures { λ x. ⌜ x ≡ placed p ⌝ }
+    ensures { λ x. ⌜ x ≡ placeWord p ⌝ }
 {
     match p {
         Place::InResult(at) => HALF + at as u64,
@@ -113,7 +113,7 @@ pub extern "C" fn tap_find(
     columns: u32,
     row: u32,
 ) -> u64
-    ensures { λ x. ⌜ x ≡ placed (placeIn (now (result .entry)) (now (work .entry)) rows quota columns row) ⌝ }
+    ensures { λ x. ⌜ x ≡ placeWord (placeIn (now (result .entry)) (now (work .entry)) rows quota columns row) ⌝ }
 {
     let p = finder::place_in(
         result,

@@ -14,8 +14,9 @@ use mir.Facts.{sfits-widen, toZ-ofZ}
 use mir.ValLaws.{sfits-le}
 use borrow.Author.Needs.{needs}
 use borrow.Author.Tests.{ltb-false, lt-ltb, le-ltb, eqb-true, eqb-false, eq-eqb, ne-eqb}
-use Rattle.definitions.specs.Values.{Val, Out, value, flaw, outcomeOf, isEqual, settled, divided, quotient, remainder, least, most}
+use Rattle.definitions.specs.Values.{Out, value, outcomeOf, isEqual, settled, divided, quotient, remainder, lowest, highest}
 use Rattle.definitions.specs.Grammar.{twos}
+use Rattle.definitions.specs.declared.Kind.{Kind}
 use Rattle.definitions.specs.declared.Kind.the-variants.{ZeroDivisor, OutOfRange}
 use Rattle.definitions.specs.declared.Outcome.{Outcome}
 use Rattle.definitions.specs.declared.Outcome.the-variants.{Value, Fault}
@@ -64,7 +65,7 @@ module _ (x y : ℤ) (f : SFits w32 x) (g : SFits w32 y) where
   product-fits = omega (arith, mag-abs (x *ℤ y), abs-product x y, mul-le-mul (natAbs-le x (f .sfits)) (natAbs-le y (g .sfits)))
 
 -- ---- what a number settles to
-pub in-range : (z : ℤ) → ltZ z least ≡ false → ltZ most z ≡ false → SFits w32 z
+pub in-range : (z : ℤ) → ltZ z lowest ≡ false → ltZ highest z ≡ false → SFits w32 z
 in-range (pos n) p q = omega (arith, ltb-false 2147483647 n q)
 in-range (negsuc n) p q = omega (arith, ltb-false 2147483647 n p)
 
@@ -139,11 +140,11 @@ pub remainder-fits : (x y : ℤ) → SFits w32 x → SFits w32 (remZ x y)
 remainder-fits x y f = sfits-le (mag-rem x y) f
 
 -- an operator that divides: what its exact result is, and what it gives at the corner
-pub record Divides (op : ℤ → ℤ → Out Val) (exact : ℤ → ℤ → ℤ) (corner : Outcome) : Type 0 where
+pub record Divides (op : ℤ → ℤ → Out Kind ℤ) (exact : ℤ → ℤ → ℤ) (corner : Outcome) : Type 0 where
   pub is : (x y : ℤ) → op x y ≡ divided y (settled (exact x y))
-  pub at-corner : corner ≡ outcomeOf (op least (negsuc 0))
+  pub at-corner : corner ≡ outcomeOf (op lowest (negsuc 0))
 
-pub quotients : Divides quotient quotZ (Fault (flaw OutOfRange))
+pub quotients : Divides quotient quotZ (Fault OutOfRange)
 unfolding settled quotient
 quotients = record { is = λ x y. refl; at-corner = refl }
 
@@ -151,8 +152,8 @@ pub remainders : Divides remainder remZ (Value (pos 0))
 unfolding settled remainder
 remainders = record { is = λ x y. rw remainder-law; at-corner = refl }
 
-module _ {op : ℤ → ℤ → Out Val} {exact : ℤ → ℤ → ℤ} {corner : Outcome} (d : Divides op exact corner) {x y : ℤ} (f : SFits w32 x) (g : SFits w32 y) where
-  pub by-zero : ofZ w32 y ≡ 0 → Fault (flaw ZeroDivisor) ≡ outcomeOf (op x y)
+module _ {op : ℤ → ℤ → Out Kind ℤ} {exact : ℤ → ℤ → ℤ} {corner : Outcome} (d : Divides op exact corner) {x y : ℤ} (f : SFits w32 x) (g : SFits w32 y) where
+  pub by-zero : ofZ w32 y ≡ 0 → Fault ZeroDivisor ≡ outcomeOf (op x y)
   by-zero e = rw (d .is x y, named g e)
 
   pub by-corner : ofZ w32 x ≡ 2147483648 → ofZ w32 y ≡ 4294967295 → corner ≡ outcomeOf (op x y)

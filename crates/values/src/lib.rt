@@ -1,13 +1,11 @@
-// The operators and comparisons of 32-bit signed values. An operator gives its exact result, or the fault that stands in its place.
+// The operators and comparisons of 32-bit signed values. An operator gives its exact result, or the kind of the fault that stands in its place.
 ghost use mathlib.Core.Path.{_≡_};
 ghost use Prim.Native.Nat.{_+_, _≤_};
 ghost use lib.ListN.{length};
 ghost use Rattle.definitions.specs.Values.{outcomeOf, settled, negation, sum, difference, product, quotient, remainder, isLess, isEqual};
 ghost use Rattle.definitions.specs.Meaning.{applied, compared, decided};
-ghost use Rattle.definitions.specs.Direct.{faulted};
 ghost use Rattle.definitions.specs.Grammar.{wordOf, twos, constantIn};
 ghost use Rattle.values.specs.Tags.{operatorOf, relationOf, jointOf};
-use definitions::Flaw;
 use definitions::Kind;
 use definitions::Outcome;
 
@@ -20,17 +18,6 @@ const HIGHEST: i64 = 2147483647;
 const LEAST: i32 = -2147483648;
 
 const MINUS_ONE: i32 = -1;
-
-// The status of a row that this fault ends.
-pub fn kind_number(f: Flaw) -> u8
-    ensures { λ r. ⌜ r ≡ faulted f ⌝ }
-{
-    let k = f.kind;
-    match k {
-        Kind::ZeroDivisor => 2,
-        Kind::OutOfRange => 3,
-    }
-}
 
 // ---- the comparisons
 
@@ -53,13 +40,9 @@ fn settle(z: i64) -> Outcome
     ensures { λ r. ⌜ r ≡ outcomeOf (settled z) ⌝ }
 {
     if z < LOWEST {
-        Outcome::Fault(Flaw {
-            kind: Kind::OutOfRange,
-        })
+        Outcome::Fault(Kind::OutOfRange)
     } else if HIGHEST < z {
-        Outcome::Fault(Flaw {
-            kind: Kind::OutOfRange,
-        })
+        Outcome::Fault(Kind::OutOfRange)
     } else {
         let v = z as i32;
         Outcome::Value(v)
@@ -94,15 +77,11 @@ pub fn divide(x: i32, y: i32) -> Outcome
     ensures { λ r. ⌜ r ≡ outcomeOf (quotient x y) ⌝ }
 {
     if y == 0 {
-        return Outcome::Fault(Flaw {
-            kind: Kind::ZeroDivisor,
-        });
+        return Outcome::Fault(Kind::ZeroDivisor);
     }
     if x == LEAST {
         if y == MINUS_ONE {
-            return Outcome::Fault(Flaw {
-                kind: Kind::OutOfRange,
-            });
+            return Outcome::Fault(Kind::OutOfRange);
         }
     }
     let q = x / y;
@@ -113,9 +92,7 @@ pub fn remainder(x: i32, y: i32) -> Outcome
     ensures { λ r. ⌜ r ≡ outcomeOf (remainder x y) ⌝ }
 {
     if y == 0 {
-        return Outcome::Fault(Flaw {
-            kind: Kind::ZeroDivisor,
-        });
+        return Outcome::Fault(Kind::ZeroDivisor);
     }
     if x == LEAST {
         if y == MINUS_ONE {

@@ -5,13 +5,13 @@ use native.Mathlib.Omega.{arith}
 use lib.ListN.{length, take, length-set}
 use mir.Facts.{toZ-ofZ}
 use mir.Syntax.{w32}
-use Rattle.answers.specs.Answer.{valuesIn}
+use Rattle.answers.specs.Answer.{wordsIn}
 use Rattle.answers.proofs.Laws.{values-none, values-more}
 use Rattle.answers.proofs.put_values.Statement.{statement}
 use Rattle.answers.proofs.put_values.Tie as tie
 
 abbrev Inv-loop : tie.InvT-loop
-Inv-loop input values₀ n i₀ values i = (i ≤ n) × ((length values ≡ length values₀) × (take i values ≡ valuesIn input i))
+Inv-loop input values₀ n i₀ values i = (i ≤ n) × ((length values ≡ length values₀) × (take i values ≡ wordsIn input i))
 
 abbrev μ-loop : tie.MeasureT-loop
 μ-loop input values₀ n i₀ values i = n - i

@@ -4,7 +4,7 @@ use native.Mathlib.Omega.{arith}
 use mathlib.Core.Path.{_≡_, refl}
 use borrow.Author.Needs.{needs}
 use Rattle.flows.specs.Marks.{marksIn, has}
-use Rattle.flows.proofs.Spans.{width-bounds}
+use Rattle.flows.proofs.Spans.{tagWidth-bounds}
 use Rattle.flows.proofs.Tags.{has-none, has-here, has-on}
 use Rattle.flows.proofs.holds.Statement.{statement}
 use Rattle.flows.proofs.holds.Tie as tie
@@ -16,7 +16,7 @@ abbrev μ-loop : tie.MeasureT-loop
 μ-loop s from to tag x at₀ at = to - at
 
 add-at : tie.Need-add-at Inv-loop μ-loop
-add-at c = omega (arith, c .width-of .ensures, width-bounds (c .before .byte .result))
+add-at c = omega (arith, c .width-of .ensures, tagWidth-bounds (c .before .byte .result))
 
 returns : tie.Need-returns Inv-loop μ-loop
 returns c =
@@ -25,7 +25,7 @@ returns c =
     has-here (a .tag) (a .x) (l .before .before .pre .1) (a .s .now) (l .loop .at) (a .to) _ (l .loop .inv) (omega arith) (c .before .stands .result) (c .before .stands .ensures) (c .if1 .taken)
 
 loop-less : tie.Need-loop-less Inv-loop μ-loop
-loop-less c = omega (arith, c .before .before .width-of .ensures, width-bounds (c .before .before .before .byte .result))
+loop-less c = omega (arith, c .before .before .width-of .ensures, tagWidth-bounds (c .before .before .before .byte .result))
 
 loop-again : tie.Need-loop-again Inv-loop μ-loop
 loop-again c =

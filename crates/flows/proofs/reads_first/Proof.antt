@@ -6,7 +6,7 @@ use mathlib.Core.Path.{_≡_, refl}
 use mathlib.Core.Bool.{false}
 use borrow.Author.Needs.{needs}
 use Rattle.flows.specs.Marks.{marksIn, readsFirst}
-use Rattle.flows.proofs.Spans.{width-bounds}
+use Rattle.flows.proofs.Spans.{tagWidth-bounds}
 use Rattle.flows.proofs.Tags.{first-none, first-here, first-shielded, first-part, first-inside}
 use Rattle.flows.proofs.reads_first.Statement.{statement}
 use Rattle.flows.proofs.reads_first.Tie as tie
@@ -18,7 +18,7 @@ abbrev μ-loop : tie.MeasureT-loop
 μ-loop s from to k setting₀ at₀ setting at = to - at
 
 add-at : tie.Need-add-at Inv-loop μ-loop
-add-at c = omega (arith, c .width-of .ensures, width-bounds (c .before .byte .result))
+add-at c = omega (arith, c .width-of .ensures, tagWidth-bounds (c .before .byte .result))
 
 returns : tie.Need-returns Inv-loop μ-loop
 returns c =
@@ -38,7 +38,7 @@ returns-2 c =
     first-shielded (a .k) (a .s .now) (l .loop .at) (a .to) (l .loop .setting) _ (l .loop .inv) (omega arith) (b .byte .result) (b .byte .ensures) (st .stands .result) (st .stands .ensures) (n .if1 .left) (c .before .if2 .taken) (c .if3 .taken)
 
 loop-less : tie.Need-loop-less Inv-loop μ-loop
-loop-less c = let w = c .before .before .before .before .before in omega (arith, w .width-of .ensures, width-bounds (w .before .byte .result))
+loop-less c = let w = c .before .before .before .before .before in omega (arith, w .width-of .ensures, tagWidth-bounds (w .before .byte .result))
 
 loop-again : tie.Need-loop-again Inv-loop μ-loop
 loop-again c =
@@ -51,7 +51,7 @@ loop-again c =
     first-part (a .k) (a .s .now) (l .loop .at) (a .to) (l .loop .setting) _ (l .loop .inv) (omega arith) (b .byte .result) (b .byte .ensures) (st .stands .result) (st .stands .ensures) (n .if1 .left) (w .width-of .result) (w .width-of .ensures) (c .before .before .if2 .taken) (c .before .if3 .left) (c .stands2 .result) (c .stands2 .ensures)
 
 loop-less-2 : tie.Need-loop-less-2 Inv-loop μ-loop
-loop-less-2 c = let w = c .before .before .before in omega (arith, w .width-of .ensures, width-bounds (w .before .byte .result))
+loop-less-2 c = let w = c .before .before .before in omega (arith, w .width-of .ensures, tagWidth-bounds (w .before .byte .result))
 
 loop-again-2 : tie.Need-loop-again-2 Inv-loop μ-loop
 loop-again-2 c =

@@ -5,6 +5,7 @@ use mathlib.Core.Logic.{⊎-elim}
 use mir.Facts.{toZ-ofZ}
 use native.Mathlib.Omega.{arith}
 use lib.ListN.{drop}
+use Rattle.definitions.specs.Values.{valuesIn}
 use Rattle.definitions.specs.Plan.{bitOf}
 use lib.ListN.{length}
 use Rattle.columns.specs.OnPlan.{spread}
@@ -13,7 +14,7 @@ use Rattle.layouts.proofs.columns_at.Statement.{statement}
 use Rattle.layouts.proofs.columns_at.Tie as tie
 
 abbrev Inv-loop : tie.InvT-loop
-Inv-loop work at v lc vars₀ k₀ vars k = (k ≤ v) × (vars ≡ spread k (bitOf lc) (drop at work))
+Inv-loop work at v lc vars₀ k₀ vars k = (k ≤ v) × (valuesIn vars ≡ spread k (bitOf lc) (valuesIn (drop at work)))
 
 abbrev μ-loop : tie.MeasureT-loop
 μ-loop work at v lc vars₀ k₀ vars k = v - k

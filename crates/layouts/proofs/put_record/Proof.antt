@@ -29,7 +29,7 @@ returns c =
     let at-copy = c .before .before .before .before in
     let a = at-copy .before .before .before .before .args in
     let e : a .count - 0 ≡ a .count = omega arith in
-    record-law (a .out .now) (a .at) (a .status) (a .begun) (a .count) 0 (take (a .count) (a .labels .now)) _ (at-copy .copy-at .last .0) (c .before .clear-at .last .0) (omega arith) (omega arith) (omega arith) (length-take-le (a .count) (a .labels .now) (omega arith)) (omega arith)
+    record-law (a .out .now) (a .at) (a .finish .status) (a .begun) (a .count) 0 (take (a .count) (a .labels .now)) _ (at-copy .copy-at .last .0) (c .before .clear-at .last .0) (omega arith) (omega arith) (omega arith) (length-take-le (a .count) (a .labels .now) (omega arith)) (omega arith)
     (rw e at (at-copy .copy-at .ensures)) (c .before .clear-at .ensures)
 
 pub put-record-spec : {M : Type 1} → statement M

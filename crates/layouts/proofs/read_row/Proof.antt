@@ -3,6 +3,8 @@ use mathlib.Core.Path.{sym, ap, _∙_}
 use native.Mathlib.Omega.{arith}
 use lib.IntN.{natAbs}
 use lib.ListN.{length}
+use Rattle.definitions.specs.Values.{valuesIn}
+use Rattle.definitions.proofs.Values.{words-length, values-again}
 use Rattle.layouts.proofs.Looks.{line-fits, row-few, row-fits, is-row, get-row, get-block, get-begun, get-count, get-labels, get-vars, fetched, fetched-length, as-number, mask-all}
 use Rattle.layouts.proofs.read_row.Statement.{statement}
 use Rattle.layouts.proofs.read_row.Tie as tie
@@ -84,13 +86,14 @@ returns c = λ p.
     let ea = ra .record-at .ensures in
     let count = n4 .number4 .ensures ∙ ap natAbs (get-count p row e at ea) in
     let labels = get-labels p row e at ea (n4 .number4 .result) (n4 .number4 .ensures) in
+    let size = ap length labels ∙ words-length (p .at .state .labels) ∙ sym count in
     record {
       row = is-row p row e;
       begun = n3 .number3 .ensures ∙ ap natAbs (get-begun p row e at ea);
       count = count;
       block = n2 .number2 .ensures ∙ ap natAbs (get-block p);
-      labels' = rw (c .fetch .ensures) (fetched _ _ (ap length labels ∙ sym count) ∙ labels);
-      room = rw (c .fetch .ensures) (fetched-length _ _ (ap length labels ∙ sym count) (omega (arith, count, p .at .sound .labels-few, p .known .quota)));
+      labels' = rw (c .fetch .ensures) (ap valuesIn (fetched _ _ size ∙ labels) ∙ values-again (p .at .state .labels));
+      room = rw (c .fetch .ensures) (fetched-length _ _ size (omega (arith, count, p .at .sound .labels-few, p .known .quota)));
       vars' = get-vars p (cols .columns-at .result) (cols .columns-at .ensures);
     }
 

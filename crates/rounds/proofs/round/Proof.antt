@@ -41,13 +41,16 @@ returns : tie.Need-returns Inv-loop μ-loop
 returns c =
     let s = c .before .before .before .before .before .before .before .before .before .before .before .before .before in
     let l = c .before .before .before .before .before .before .before .before .before .loop in
-    walked-end (s .pre .0 .0) (l .inv .1) (omega arith) refl (s .pre .0 .1 .0 .0) (c .before .before .before .before .before .before .before .entry-of .ensures) (c .before .before .before .before .run-block .ensures) _ _ (c .before .status .given .1)
+    walked-end (s .pre .0 .0) (l .inv .1) (omega arith) refl (s .pre .0 .1 .0 .0) (c .before .before .before .before .before .before .before .entry-of .ensures) (c .before .before .before .before .run-block .ensures) _ _ (c .before .finish .given .1)
 
 returns-2 : tie.Need-returns-2 Inv-loop μ-loop
 returns-2 c =
-    let s = c .before .before .before .before .before .before .before .before .before .before .before .before .before in
-    let l = c .before .before .before .before .before .before .before .before .before .loop in
-    walked-jump (s .pre .0 .0) (l .inv .1) (omega arith) refl (s .pre .0 .1 .0 .0) (c .before .before .before .before .before .before .before .entry-of .ensures) (c .before .before .before .before .run-block .ensures) _ _ (c .before .t .given .1)
+    let t = c .before .before in
+    let ran = t .before .before .before in
+    let l = ran .before .before .before .before .before in
+    let s = l .before .before .before .before in
+    rw (c .jump-to .ensures)
+    (walked-jump (s .pre .0 .0) (l .loop .inv .1) (omega arith) refl (s .pre .0 .1 .0 .0) (ran .before .before .before .entry-of .ensures) (ran .run-block .ensures) _ _ (t .t .given .1))
 
 loop-again : tie.Need-loop-again Inv-loop μ-loop
 loop-again c =
@@ -58,7 +61,7 @@ loop-again c =
     )
 
 returns-3 : tie.Need-returns-3 Inv-loop μ-loop
-returns-3 c = spent (c .before .loop .inv .1) (omega arith)
+returns-3 c = rw (c .jump-to2 .ensures) (spent (c .before .before .loop .inv .1) (omega arith))
 
 pub round-spec : {M : Type 1} → statement M
 round-spec =
@@ -76,10 +79,12 @@ round-spec =
     (λ c. omega arith)
     returns
     (λ c. search needs)
+    (λ c κs. search needs)
     (λ c. omega arith)
     returns-2
     (λ c. search needs)
     (λ c. omega arith)
     loop-again
+    (λ c κs. search needs)
     (λ c. omega arith)
     returns-3)

@@ -1,8 +1,9 @@
 -- Between two turns: the lines written stand at the front, those still to read behind. Assumes nothing.
 use Prim.Native.Nat.{_≤_, _-_}
-use mathlib.Core.Path.{_≡_, refl, _∙_}
+use mathlib.Core.Path.{_≡_, refl, sym, _∙_}
 use mathlib.Core.Logic.{⊎-elim}
 use native.Mathlib.Omega.{arith}
+use borrow.Author.Needs.{needs}
 use native.Mathlib.Nat.{mul-le-mul-right}
 use lib.ListN.{length}
 use Rattle.definitions.specs.Direct.{after}
@@ -75,7 +76,7 @@ loop-again c =
           λ t.
               let d = ready sw _ t (in-loop .loop-test .taken) (l .inv .2 .1 .1 t) in
               mid-turn sw _ t d (a .l .size) (kn .size') (u .result) _ _ (u .ensures (mid-row sw _ t d (a .l .size) (kn .size'))) (c .if2 .kept) (c .before .before .if1 .top)
-              (⊎-elim (λ w. one-more (l .kept) (c .if2 .kept) (u .result .status) (w .0 .taken) (w .1)) (λ w. no-more (l .kept) (c .if2 .kept) (u .result .status) (w .0 .left) (w .1)) (c .if2 .came))
+              (⊎-elim (λ w. one-more (l .kept) (c .if2 .kept) _ (sym (c .before .goes-on .ensures) ∙ w .0 .taken) (w .1)) (λ w. no-more (l .kept) (c .if2 .kept) _ (sym (c .before .goes-on .ensures) ∙ w .0 .left) (w .1)) (c .if2 .came))
               (⊎-elim (λ w. omega (arith, w .0 .taken, w .1)) (λ w. omega (arith, w .0 .left, w .1)) (c .before .before .if1 .came)),
         ),
       ),
@@ -97,6 +98,7 @@ pass-spec =
     mul-t15
     mul-t16
     turn-requires
+    (λ c κs. search needs)
     add-kept
     add-i
     (λ c. omega arith)

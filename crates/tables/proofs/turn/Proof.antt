@@ -1,4 +1,5 @@
 -- A row is read, carried on, and written. Assumes nothing.
+use mathlib.Core.Path.{sym, _∙_}
 use native.Mathlib.Omega.{arith}
 use Rattle.tables.proofs.Turns.{some-row, count-in, in-hand, place-fits, line-room, row-few, begun-few, count-few, turned-on, turned-off}
 use borrow.Author.Needs.{needs}
@@ -34,7 +35,7 @@ record-at-requires c κs =
 
 put-record-requires : tie.Need-put-record-requires
 put-record-requires c κs =
-    let at-record = c .before .before in
+    let at-record = c .before .before .before in
     let at-carry = at-record .before .before .before .before in
     let at-read = at-carry .before .before .before .before .before in
     let s = at-read .before .before .before .before in
@@ -46,7 +47,7 @@ put-record-requires c κs =
 
 put-line-requires : tie.Need-put-line-requires
 put-line-requires c κs =
-    let at-read = c .before .before .before .before .before .before .before .before .before .before .before .before .before .before .before .before .before in
+    let at-read = c .before .before .before .before .before .before .before .before .before .before .before .before .before .before .before .before .before .before in
     let s = at-read .before .before .before .before in
     let kn = s .pre .0 .1 .0 in
     let k = s .pre .1 .at in
@@ -56,26 +57,26 @@ put-line-requires c κs =
 returns : tie.Need-returns
 returns c =
     let at-put = c .before .before .before .before .before .before .before in
-    let at-record = at-put .before .before .before in
+    let at-record = at-put .before .before .before .before in
     let at-carry = at-record .before .before .before .before in
     let at-read = at-carry .before .before .before .before .before in
     let s = at-read .before .before .before .before in
     let kn = s .pre .0 .1 .0 in
     λ k.
     let lk = at-read .read-row .ensures (some-row kn k) in
-    turned-on kn k lk (s .args .budget) (at-carry .carry .ensures (in-hand kn k lk)) (at-record .record-at .result) (at-record .record-at .ensures) (at-put .put-record .last .0) (at-put .put-record .ensures) (s .args .m .to) (c .before .put-line .last .0) (c .before .before .before .before .if1 .taken) (c .before .put-line .ensures)
+    turned-on kn k lk (s .args .budget) (at-carry .carry .ensures (in-hand kn k lk)) (at-record .record-at .result) (at-record .record-at .ensures) (at-put .put-record .last .0) (at-put .put-record .ensures) (s .args .m .to) (c .before .put-line .last .0) (sym (c .before .before .before .before .before .goes-on .ensures) ∙ c .before .before .before .before .if1 .taken) (c .before .put-line .ensures)
 
 returns-2 : tie.Need-returns-2
 returns-2 c =
     let at-put = c .before .before .before in
-    let at-record = at-put .before .before .before in
+    let at-record = at-put .before .before .before .before in
     let at-carry = at-record .before .before .before .before in
     let at-read = at-carry .before .before .before .before .before in
     let s = at-read .before .before .before .before in
     let kn = s .pre .0 .1 .0 in
     λ k.
     let lk = at-read .read-row .ensures (some-row kn k) in
-    turned-off kn k lk (s .args .budget) (at-carry .carry .ensures (in-hand kn k lk)) (at-record .record-at .result) (at-record .record-at .ensures) (at-put .put-record .last .0) (at-put .put-record .ensures) (s .args .m .to) (c .if1 .left)
+    turned-off kn k lk (s .args .budget) (at-carry .carry .ensures (in-hand kn k lk)) (at-record .record-at .result) (at-record .record-at .ensures) (at-put .put-record .last .0) (at-put .put-record .ensures) (s .args .m .to) (sym (c .before .goes-on .ensures) ∙ c .if1 .left)
 
 pub turn-spec : {M : Type 1} → statement M
 turn-spec =
@@ -87,6 +88,7 @@ turn-spec =
     add-begun
     record-at-requires
     put-record-requires
+    (λ c κs. search needs)
     put-line-requires
     (λ c. search needs)
     (λ c. search needs)

@@ -1,0 +1,6 @@
+pub mod Tags
+pub mod Table
+pub mod Reading
+pub mod Skipping
+pub mod Answers
+pub mod Evaluating

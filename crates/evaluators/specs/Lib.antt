@@ -1,0 +1,2 @@
+pub mod Skip
+pub mod Answer
