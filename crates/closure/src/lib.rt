@@ -272,13 +272,6 @@ pub fn place(mask: u16, k: usize) -> usize
     requires { ⌜ k ≤ mostVariables ⌝ }
     ensures { λ r. ⌜ r ≡ countTo k (bitOf mask) ⌝ }
 {
-    let mut count = 0;
-    let mut i = 0;
-    while i < k {
-        if has(mask, i) {
-            count += 1;
-        }
-        i += 1;
-    }
-    count
+    let lower = (mask as u32) % (1u32 << k);
+    u32::count_ones(lower) as usize
 }
