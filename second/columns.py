@@ -13,9 +13,24 @@ class Columns(NamedTuple):
 
 
 def columns(rule):
-    targets = [named(block.ending, (GOTO, JUMP)) for block in rule.blocks]
-    jump_targets = {0}.union(*[named(block.ending, (JUMP,)) for block in rule.blocks])
-    free = [free_variables(block) for block in rule.blocks]
+    return columns_counting(rule, living_blocks(rule))
+
+
+def living_blocks(rule):
+    """Block 0, and every block that a chain of gotos and jumps in endings leads to from it."""
+    living, unseen = {0}, [0]
+    while unseen:
+        new = named(rule.blocks[unseen.pop()].ending, (GOTO, JUMP)) - living
+        living |= new
+        unseen += new
+    return living
+
+
+def columns_counting(rule, counted):
+    """The sets when only these blocks bring in what they read and name; the others stay empty."""
+    targets = named_by_endings(rule, counted, (GOTO, JUMP))
+    jump_targets = {0}.union(*named_by_endings(rule, counted, (JUMP,)))
+    free = [free_variables(block) if b in counted else set() for b, block in enumerate(rule.blocks)]
     bound = [{statement[1] for statement in block.statements if statement[0] == SET}
              for block in rule.blocks]
     inputs = [set(names) for names in free]
@@ -29,6 +44,11 @@ def columns(rule):
         if grown == inputs:
             return Columns(inputs, outputs, jump_targets, loop)
         inputs = grown
+
+
+def named_by_endings(rule, counted, tags):
+    """For each block the blocks its ending names behind those tags."""
+    return [named(block.ending, tags) if b in counted else set() for b, block in enumerate(rule.blocks)]
 
 
 def free_variables(block):

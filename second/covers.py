@@ -1,14 +1,18 @@
 """Counts what a stream and its answers exercise: python3 second/covers.py stream answers
 
-Fails, and says what is missing, unless every reply of every call, every status and every kind of
-found part has come up.
+Fails, and says what is missing, unless every reply of every call, every status, every kind of found
+part, and every kind of dead blocks in plans made, run and outdated has come up.
 """
 
 import sys
 from collections import Counter
 
 from calls import record_size
+from dead import KINDS, dead_kinds, old_plan
 from direct import UNFINISHED
+from files import payload_of
+from plan import carried_rule, compile_rule
+from refusal import Refusal
 from stream import COMPILE, READ, WRITE, BadRequest, Bytes, Run, requests
 
 NAMES = {READ: "read", WRITE: "write", COMPILE: "compile"}
@@ -19,6 +23,7 @@ REFUSALS = {
     "run": range(12, 16),
 }
 STATUSES = range(5)
+OUTDATED, STILL_GOOD = "old plan refused 15", "old plan still good, dead block"
 
 
 def wanted():
@@ -26,13 +31,15 @@ def wanted():
     names += [f"{call} refused {number}" for call, numbers in REFUSALS.items() for number in numbers]
     names += ["run refused 12 at 0", "run refused 12 at 1"]
     names += [f"run status {status}" for status in STATUSES]
-    return names + ["find record", "find line", "find empty"]
+    names += ["find record", "find line", "find empty"]
+    names += [f"{shown}, {kind}" for shown in ("compile ok", "run ok", OUTDATED) for kind in KINDS]
+    return names + [STILL_GOOD]
 
 
 def seen_in(request, answer):
     """The names of what one answer shows."""
     if isinstance(request, Bytes):
-        return [reply_name(NAMES[request.kind], answer)]
+        return seen_in_bytes(request, reply_name(NAMES[request.kind], answer))
     if isinstance(request, Run):
         return seen_in_run(request, answer)
     if answer == "-":
@@ -41,15 +48,44 @@ def seen_in(request, answer):
     return ["find line" if status == UNFINISHED else "find record"]
 
 
+def seen_in_bytes(request, name):
+    if name != "compile ok":
+        return [name]
+    return [name, *with_kinds(name, payload_of(request.data))]
+
+
+def with_kinds(shown, rule):
+    return [f"{shown}, {kind}" for kind in dead_kinds(rule)]
+
+
 def seen_in_run(request, answer):
     reply, result, _ = answer.split(" | ")
     if reply.startswith("refused 12"):
         return ["run refused 12", f"run refused 12 at {reply.split()[2]}"]
+    if reply.startswith("refused 15"):
+        return ["run refused 15", *seen_in_outdated(request.plan)]
     if reply.startswith("refused"):
         return [reply_name("run", reply)]
     records_end = request.rows * record_size(request.quota)
     words = result.split()[:records_end]
-    return ["run ok", *[f"run status {status}" for status in words[::record_size(request.quota)]]]
+    names = ["run ok", *[f"run status {status}" for status in words[::record_size(request.quota)]]]
+    return names + seen_in_accepted(carried_rule(request.plan))
+
+
+def seen_in_outdated(plan):
+    """Of what is no plan, only a plan from before K3 counts here, and only if K3 changed it."""
+    rule = carried_rule(plan)
+    try:
+        outdated = plan == old_plan(rule) != compile_rule(rule)
+    except Refusal:
+        return []
+    return with_kinds(OUTDATED, rule) if outdated else []
+
+
+def seen_in_accepted(rule):
+    """The kinds of dead blocks in a rule that ran, and whether its old plan would have run too."""
+    names = with_kinds("run ok", rule)
+    return names + [STILL_GOOD] if names and old_plan(rule) == compile_rule(rule) else names
 
 
 def reply_name(call, answer):

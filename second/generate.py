@@ -7,7 +7,7 @@ from dice import Dice
 from files import pages_of
 from make_damage import damaged_file, damaged_rule, overlong_rule
 from make_finds import find_request
-from make_rules import any_rule, small_rule, stretched
+from make_rules import any_rule, small_rule, stretched, with_dead
 from make_runs import endless, ends_late, full_batch, overlong_carried, run_request
 from refusal import Refusal
 from rule import LONGEST_RULE
@@ -28,7 +28,9 @@ def write_request(dice):
 
 
 def compile_request(dice):
-    return with_room(dice, COMPILE, calls.compile, some_file(dice))
+    # Only a plan shows what became of dead blocks, and few of the other files get as far as one.
+    file = pages_of(with_dead(dice)) if dice.one_in(6) else some_file(dice)
+    return with_room(dice, COMPILE, calls.compile, file)
 
 
 def some_file(dice):

@@ -9,7 +9,7 @@ import build
 from files import CHECK_AT, PAGE_SIZE, PAYLOAD_AT, PAYLOAD_SIZE, pages_of, sealed
 from make_rules import (ENDING_LEVELS, VALUE_LEVELS, Place, condition, deep_condition, deep_ending,
                         deep_expression, expression, stretched)
-from plan import ENTRY_SIZE, body_offset, compile_rule
+from plan import ENTRY_SIZE, body_offset, carried_rule, compile_rule
 from refusal import Refusal
 from rule import HEADER_SIZE, LONGEST_RULE, parse
 
@@ -235,8 +235,7 @@ def short_plan(dice, plan):
 
 def overlong_plan(dice, plan):
     """Right in all but the length of the rule it carries."""
-    rule = plan[:HEADER_SIZE] + plan[body_offset(plan[3]):]
-    return compile_rule(overlong_rule(dice, rule))
+    return compile_rule(overlong_rule(dice, carried_rule(plan)))
 
 
 PLAN_DAMAGES = ((4, bad_loop_mask), (10, bad_entry), (4, bad_body), (2, bad_plan_header), (3, short_plan),

@@ -198,6 +198,53 @@ def deep(dice):
     return build.rule(variables, dice.between(0, variables), [first, second])
 
 
+def with_dead(dice):
+    """Living blocks in a row from block 0, and among them dead ones, which no living ending names."""
+    variables, blocks = dice.between(2, 16), dice.between(2, 9)
+    few = dice.between(1, variables)  # the living ones keep to these, so that the dead could widen a line
+    living = [0] + [block for block in range(1, blocks) if dice.one_in(2)]
+    idle = dice.one_in(6)  # dead blocks that change no set, so that the plan is as it always was
+    bodies = []
+    for block in range(blocks):
+        place = Place(variables, block, blocks)
+        if block not in living:
+            bodies.append(build.stop() if idle else dead_body(dice, place, living))
+            continue
+        work = b"".join(gentle(dice, dice.below(few), few) for _ in range(dice.below(3)))
+        bodies.append(work + living_ending(dice, place._replace(variables=few), living))
+    return build.rule(variables, dice.between(0, min(few, 4)), bodies)
+
+
+def living_ending(dice, place, living):
+    """Leads to the next living block, now and then by an arm that is never taken."""
+    later = [block for block in living if block > place.block]
+    aside = dice.pick((build.stop(), build.jump(dice.pick(living)), build.jump(dice.pick(living))))
+    if not later:
+        return aside
+    way_on = dice.pick((build.goto, build.goto, build.jump))(later[0])
+    if dice.one_in(2):
+        return way_on
+    if dice.one_in(4):
+        return build.choose(build.less(build.number(1), build.number(0)), way_on, aside)
+    return build.choose(condition(dice, place, 2), *turned(dice, [way_on, aside]))
+
+
+def dead_body(dice, place, living):
+    """Reads what it likes, and leads to the dead, to the living, or nowhere."""
+    steps = b"".join(statement(dice, place) for _ in range(dice.below(3)))
+    arms = [dead_way(dice, place, living), dead_way(dice, place, living)]
+    return steps + (build.choose(condition(dice, place, 2), *arms) if dice.one_in(3) else arms[0])
+
+
+def dead_way(dice, place, living):
+    dead = [block for block in range(place.blocks) if block not in living]
+    later = range(place.block + 1, place.blocks)
+    ways = [build.stop(), build.jump(dice.pick(living)), build.jump(dice.pick(dead))]
+    if later:
+        ways += [build.goto(dice.pick(later)), build.goto(later[0])]
+    return dice.pick(ways)
+
+
 def corner_sums(dice):
     """A few operators on two arguments, for rows of corner values."""
     emits = [build.emit(corner_sum(dice)) for _ in range(dice.between(1, 3))]
@@ -232,7 +279,8 @@ def stretched(dice, rule, length):
     return rule[:HEADER_SIZE] + padding + rule[HEADER_SIZE:]
 
 
-SHAPES = ((6, wild), (8, countdown), (6, forever), (2, corner_sums), (2, deep), (1, crowded), (1, wide))
+SHAPES = ((6, wild), (8, countdown), (6, forever), (5, with_dead), (2, corner_sums), (2, deep), (1, crowded),
+          (1, wide))
 
 
 def small_rule(dice):

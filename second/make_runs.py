@@ -1,10 +1,11 @@
 """Run requests: good ones, and good ones with one or two things put wrong."""
 
-from calls import MOST_LABELS, MOST_ROUNDS, MOST_ROWS, line_size, record_size
+from calls import MOST_COLUMNS, MOST_LABELS, MOST_ROUNDS, MOST_ROWS, line_size, record_size
+from dead import old_plan
 from direct import LEAST
 from make_damage import damaged_plan, overlong_plan
-from make_rules import CORNERS, any_rule, corner_sums, forever, number, small_rule, tick
-from plan import accept, compile_rule
+from make_rules import CORNERS, any_rule, corner_sums, forever, number, small_rule, tick, with_dead
+from plan import accept, carried_rule, compile_rule
 from stream import Run
 
 HUGE = 2**32 - 1
@@ -17,7 +18,10 @@ def good_run(dice):
 
 
 def few_rows(dice):
-    rule = any_rule(dice)
+    return few_rows_of(dice, any_rule(dice))
+
+
+def few_rows_of(dice, rule):
     rows, budget = dice.pick((0, 1, 1, 2, 3, 4, 5, 6)), dice.pick((0, 1, 2, 2, 3, 4, 6, 9, 13, 40))
     return roomy_run(dice, rule, rows, budget, some_values(dice, rows * rule[2]))
 
@@ -47,6 +51,13 @@ def endless(dice):
 def ends_late(dice):
     """The greatest budget, and rows that end in its last round, one too late, and early."""
     return roomy_run(dice, tick(dice), 3, MOST_ROUNDS, [MOST_ROUNDS - 1, MOST_ROUNDS, dice.between(0, 9)])
+
+
+def old_run(dice):
+    """A plan from before K3, with room for the widest lines, so that nothing else speaks against it."""
+    run = few_rows_of(dice, with_dead(dice))
+    return run._replace(plan=old_plan(carried_rule(run.plan)),
+                        working_room=run.rows * line_size(MOST_COLUMNS))
 
 
 def overlong_carried(dice):
@@ -109,7 +120,7 @@ WRONGS = (too_many_rows, wrong_values, budget_too_high, quota_too_high, small_re
 
 def run_request(dice):
     """Two wrongs at once show which of them is answered."""
-    run = good_run(dice)
+    run = old_run(dice) if dice.one_in(12) else good_run(dice)
     if dice.one_in(2):
         return more_room(dice, run) if dice.one_in(2) else run
     # The plan goes last, as the others look into it.

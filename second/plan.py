@@ -27,8 +27,7 @@ def plan_of(rule, tree, found):
 
 def accept(plan):
     """The tree and the loop columns of a plan; the rule it carries decides, by compiling anew."""
-    blocks = plan[3] if len(plan) >= HEADER_SIZE else 0
-    rule = plan[:HEADER_SIZE] + plan[body_offset(blocks):]
+    rule = carried_rule(plan)
     if len(rule) > LONGEST_RULE:
         raise Refusal(15, 0)
     try:
@@ -39,6 +38,12 @@ def accept(plan):
     if plan != plan_of(rule, tree, found):
         raise Refusal(15, 0)
     return tree, sorted(found.loop)
+
+
+def carried_rule(plan):
+    """The bytes that would be the rule, of a plan or of anything else."""
+    blocks = plan[3] if len(plan) >= HEADER_SIZE else 0
+    return plan[:HEADER_SIZE] + plan[body_offset(blocks):]
 
 
 def body_offset(blocks):

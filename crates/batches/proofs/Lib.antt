@@ -5,3 +5,4 @@ pub mod Promises
 pub mod FileToRecord
 pub mod Searches
 pub mod Found
+pub mod Older

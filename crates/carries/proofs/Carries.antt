@@ -20,6 +20,7 @@ use Rattle.columns.specs.Proper.{Proper}
 use Rattle.columns.specs.Row.{Sound, SoundNow}
 use Rattle.columns.specs.Alike.{Alike}
 use Rattle.columns.proofs.Alike.{alike-less}
+use Rattle.definitions.proofs.Led.{J-led}
 use Rattle.columns.proofs.Walks.{Rounds, both-jumped, both-finished, walk-alike}
 use Rattle.columns.proofs.Rows.{roundOf, advance-on, after-add, after-done, after-sound}
 use Rattle.rounds.specs.Round.{endedAs}
@@ -95,7 +96,7 @@ module _ {r : Rule} {q : ℕ} {s : State} {labels vars : List Word} (ok : Proper
 
     both : Rounds r (roundOf r q here) (planWalk (size r) r q (here .block) (valuesIn vars) (here .labels))
     both =
-        walk-alike r ok (size r) q (here .block) (here .vars) (valuesIn vars) (here .labels) (here-sound .block-below) (ok .ranked .below _ (here-sound .block-below))
+        walk-alike r ok (size r) q (here .block) (here .vars) (valuesIn vars) (here .labels) (here-sound .block-below) (J-led r (here .block) (here-sound .block-below) (here-sound .block-in-J)) (ok .ranked .below _ (here-sound .block-below))
         (alike-less (r .variables) (LC (flowOf r)) (inputsOf (flowOf r) (here .block)) (here .vars) (valuesIn vars)
         (λ k i p. sym (shared (flowOf r) (here .block) k (here-sound .block-below) i (here-sound .block-in-J)) ∙ p) (w .vars' going))
 

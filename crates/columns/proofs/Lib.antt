@@ -6,3 +6,4 @@ pub mod Walks
 pub mod Keeping
 pub mod Rows
 pub mod Ranges
+pub mod Living

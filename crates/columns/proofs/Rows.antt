@@ -72,7 +72,7 @@ module _ (r : Rule) (q : ℕ) where
       where
         go : (R : Round) → roundOf r q s ≡ R → KeptRound (λ x. length x ≡ length (s .vars)) (Grown q (s .labels)) R → Sound r q (suc n) (joined s R)
         go (jumped t env ls) p k =
-            let j = jumps-into-J r ok q (s .block) (s .vars) (s .labels) (h .vars-all) (h .block-below) t env ls p in
+            let j = jumps-into-J r ok q (s .block) (s .vars) (s .labels) (h .vars-all) (h .block-below) (h .block-in-J) t env ls p in
             record {
               status-low = omega arith;
               unended = λ z. refl;

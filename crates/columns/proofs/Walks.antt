@@ -9,12 +9,13 @@ use lib.ListN.{length}
 use Rattle.definitions.specs.Values.{Val, Out, value, fault}
 use Rattle.definitions.specs.declared.Flaw.{Flaw}
 use Rattle.definitions.specs.declared.Finish.{Finish}
-use Rattle.definitions.specs.Rule.{Rule, size, blockOf}
+use Rattle.definitions.specs.Rule.{End, Rule, size, blockOf}
 use Rattle.definitions.specs.Direct.{Exit, toBlock, toRound, toStop, exit, Way, on, ended, Round, jumped, finished, leave, through, steps, walk, stopped, faulted}
-use Rattle.definitions.specs.Columns.{flowOf, inputsOf, outputsOf, names, J, outputs, LC, sets, goesTo, jumpsTo}
+use Rattle.definitions.specs.Columns.{ledTo, flowOf, inputsOf, outputsOf, names, J, outputs, LC, sets, goesTo, jumpsTo}
 use Rattle.definitions.specs.Batch.{columnsOf}
 use Rattle.definitions.proofs.Tests.{or-left, or-right, and-both, some-in}
 use Rattle.definitions.proofs.Columns.{computed, shared}
+use Rattle.definitions.proofs.Led.{led-along, J-led}
 use Rattle.columns.specs.OnPlan.{entered, handed, leaving, planWalk, spread, narrowed, lineRound}
 use Rattle.columns.specs.Proper.{Proper}
 use Rattle.columns.proofs.Reading.{exit-alike}
@@ -30,12 +31,12 @@ pub data Rounds (r : Rule) (a b : Round) : Type 0 where
 
 module _ (r : Rule) (ok : Proper r) where
   -- ---- the sets of a block
-  module _ (b : ℕ) (l : b < size r) where
+  module _ (b : ℕ) (l : b < size r) (led : ledTo r b ≡ true) where
     covered : Covered (r .variables) (blockOf r b .body) (blockOf r b .ending) (inputsOf (flowOf r) b)
     covered = record {
       set-below = λ k p. ok .set-below b k l p;
       below = λ k p. ok .read-below b k l p;
-      known = λ k p. computed (flowOf r) .meets .own b k l (ok .read-below b k l p) p;
+      known = λ k p. computed (flowOf r) .meets .own b k l (ok .read-below b k l p) (and-both (ledTo r b) _ led p);
     }
 
     -- what a block hands on it had, or has set
@@ -52,45 +53,41 @@ module _ (r : Rule) (ok : Proper r) where
     named-inputs t m n k h p = some-in (size r) t (λ u. names (flowOf r) b u && inputsOf (flowOf r) u k) m (and-both _ _ n p)
 
     jumped-in-J : (t : ℕ) → jumpsTo (blockOf r b .ending) t ≡ true → J (flowOf r) t ≡ true
-    jumped-in-J t p = or-right (eqb t 0) _ (some-in (size r) b (λ c. jumpsTo (blockOf r c .ending) t) l p)
+    jumped-in-J t p = or-right (eqb t 0) _ (some-in (size r) b (λ c. flowOf r .jumps c t) l (and-both (ledTo r b) _ led p))
 
     -- ---- the ending
     leave-alike : (o : Out Flaw Exit) → Named (blockOf r b .ending) o → (x y ls : List Val) → Alike (r .variables) (outputsOf (flowOf r) b) x y → (W U : ℕ → Round)
-        → ((t : ℕ) → t < size r → ok .rank t < ok .rank b → Alike (r .variables) (inputsOf (flowOf r) t) x y → Rounds r (W t) (U t)) → Rounds r (leave o x ls W) (leave o y ls U)
+        → ((t : ℕ) → t < size r → ledTo r t ≡ true → ok .rank t < ok .rank b → Alike (r .variables) (inputsOf (flowOf r) t) x y → Rounds r (W t) (U t)) → Rounds r (leave o x ls W) (leave o y ls U)
     leave-alike (value (toBlock t)) n x y ls w W U h =
         let m = ok .goto-below b t l (n .goes t refl) in
-        h t m (ok .ranked .falls b t l (n .goes t refl)) (alike-less _ _ _ x y (named-inputs t m (or-left (goesTo (blockOf r b .ending) t) _ (n .goes t refl))) w)
+        h t m (led-along r b t l m led (or-left (goesTo (blockOf r b .ending) t) _ (n .goes t refl))) (ok .ranked .falls b t l (n .goes t refl))
+        (alike-less _ _ _ x y (named-inputs t m (or-left (flowOf r .gotos b t) _ (and-both (ledTo r b) _ led (n .goes t refl)))) w)
     leave-alike (value (toRound t)) n x y ls w W U h =
         let j = jumped-in-J t (n .jumps t refl) in
         let m = ok .jump-below b t l (n .jumps t refl) in
-        both-jumped t x y ls refl refl m j (alike-less _ _ _ x y (λ k i p. named-inputs t m (or-right (goesTo (blockOf r b .ending) t) _ (n .jumps t refl)) k i (shared (flowOf r) t k m i j ∙ p)) w)
+        both-jumped t x y ls refl refl m j (alike-less _ _ _ x y (λ k i p. named-inputs t m (or-right (flowOf r .gotos b t) _ (and-both (ledTo r b) _ led (n .jumps t refl))) k i (shared (flowOf r) t k m i j ∙ p)) w)
     leave-alike (value toStop) n x y ls w W U h = both-finished stopped ls refl refl
     leave-alike (fault k) n x y ls w W U h = both-finished (faulted k) ls refl refl
 
     -- ---- the block
     block-alike : (q : ℕ) (x y ls : List Val) → Alike (r .variables) (inputsOf (flowOf r) b) x y → (W U : ℕ → List Val → List Val → Round)
-        → ((t : ℕ) (x y ls : List Val) → t < size r → ok .rank t < ok .rank b → Alike (r .variables) (inputsOf (flowOf r) t) x y → Rounds r (W t x ls) (U t y ls))
+        → ((t : ℕ) (x y ls : List Val) → t < size r → ledTo r t ≡ true → ok .rank t < ok .rank b → Alike (r .variables) (inputsOf (flowOf r) t) x y → Rounds r (W t x ls) (U t y ls))
         → Rounds r (through (steps q (blockOf r b .body) x ls) (blockOf r b .ending) W) (leaving r b (steps q (blockOf r b .body) (entered r b y) ls) (blockOf r b .ending) U)
     block-alike q x y ls w W U h = go _ _ (steps-alike (r .variables) (blockOf r b .ending) q (blockOf r b .body) _ x (entered r b y) ls covered (alike-kept _ (r .variables) x y w))
       where
         go : (c d : Way) → Ways (r .variables) (λ k. inputsOf (flowOf r) b k || sets (blockOf r b .body) k) c d → Rounds r (through c (blockOf r b .ending) W) (leaving r b d (blockOf r b .ending) U)
         go c d (both-on x y ls p q w) =
             rw (p, q, exit-alike (blockOf r b .ending) x y (looks-agree (r .variables) _ (blockOf r b .body) _ x y covered w))
-            (leave-alike (exit (blockOf r b .ending) y) (exit-named (blockOf r b .ending) y) x (handed r b y) ls (alike-kept _ (r .variables) x y (alike-less _ _ _ x y handed-on w)) _ _ (λ t m n. h t x (handed r b y) ls m n))
+            (leave-alike (exit (blockOf r b .ending) y) (exit-named (blockOf r b .ending) y) x (handed r b y) ls (alike-kept _ (r .variables) x y (alike-less _ _ _ x y handed-on w)) _ _ (λ t m e n. h t x (handed r b y) ls m e n))
         go c d (both-ended how ls p q) = both-finished how ls (rw p) (rw q)
 
   -- ---- the round: from block b on, more blocks than its rank are enough
-  pub walk-alike : (f q b : ℕ) (x y ls : List Val) → b < size r → ok .rank b < f → Alike (r .variables) (inputsOf (flowOf r) b) x y → Rounds r (walk f r q b x ls) (planWalk f r q b y ls)
+  pub walk-alike : (f q b : ℕ) (x y ls : List Val) → b < size r → ledTo r b ≡ true → ok .rank b < f → Alike (r .variables) (inputsOf (flowOf r) b) x y → Rounds r (walk f r q b x ls) (planWalk f r q b y ls)
   unfolding walk planWalk
-  walk-alike zero q b x y ls l s w = absurd (omega arith)
-  walk-alike (suc f) q b x y ls l s w = block-alike b l q x y ls w _ _ (λ t x y ls m n u. walk-alike f q t x y ls m (omega arith) u)
+  walk-alike zero q b x y ls l e s w = absurd (omega arith)
+  walk-alike (suc f) q b x y ls l e s w = block-alike b l e q x y ls w _ _ (λ t x y ls m e n u. walk-alike f q t x y ls m e (omega arith) u)
 
   -- ---- and more make no difference
-
-  goto-falls : (b : ℕ) (env : List Val) → b < size r → (t : ℕ) → exit (blockOf r b .ending) env ≡ value (toBlock t) → (t < size r) × (ok .rank t < ok .rank b)
-  goto-falls b env l t p =
-      let n = exit-named (blockOf r b .ending) env in
-      (ok .goto-below b t l (n .goes t p), ok .ranked .falls b t l (n .goes t p))
 
   leave-same : (o : Out Flaw Exit) (env ls : List Val) (W U : ℕ → Round) → ((t : ℕ) → o ≡ value (toBlock t) → W t ≡ U t) → leave o env ls W ≡ leave o env ls U
   leave-same (value (toBlock t)) env ls W U h = h t refl
@@ -98,20 +95,22 @@ module _ (r : Rule) (ok : Proper r) where
   leave-same (value toStop) env ls W U h = refl
   leave-same (fault k) env ls W U h = refl
 
-  module _ (b : ℕ) (l : b < size r) (W U : ℕ → List Val → List Val → Round) (h : (t : ℕ) (env ls : List Val) → t < size r → ok .rank t < ok .rank b → W t env ls ≡ U t env ls) where
-    through-same : (w : Way) → through w (blockOf r b .ending) W ≡ through w (blockOf r b .ending) U
-    through-same (on env ls) = leave-same _ env ls _ _ (λ t p. let m = goto-falls b env l t p in h t env ls (m .0) (m .1))
-    through-same (ended how ls) = refl
+  pub through-same : (e : End) (W U : ℕ → List Val → List Val → Round) → ((t : ℕ) (env ls : List Val) → goesTo e t ≡ true → W t env ls ≡ U t env ls) → (w : Way) → through w e W ≡ through w e U
+  through-same e W U h (on env ls) = leave-same _ env ls _ _ (λ t p. h t env ls (exit-named e env .goes t p))
+  through-same e W U h (ended how ls) = refl
 
   pub walk-enough : (f g q b : ℕ) (env ls : List Val) → b < size r → ok .rank b < f → ok .rank b < g → walk f r q b env ls ≡ walk g r q b env ls
   unfolding walk
   walk-enough zero g q b env ls l m n = absurd (omega arith)
   walk-enough (suc f) zero q b env ls l m n = absurd (omega arith)
-  walk-enough (suc f) (suc g) q b env ls l m n = through-same b l _ _ (λ t env ls i j. walk-enough f g q t env ls i (omega arith) (omega arith)) (steps q (blockOf r b .body) env ls)
+  walk-enough (suc f) (suc g) q b env ls l m n =
+      through-same (blockOf r b .ending) _ _
+      (λ t env ls p. let j = ok .ranked .falls b t l p in walk-enough f g q t env ls (ok .goto-below b t l p) (omega (arith, j)) (omega (arith, j)))
+      (steps q (blockOf r b .body) env ls)
 
   -- a round that goes on, goes on at a block of J
-  pub jumps-into-J : (q b : ℕ) (vars ls : List Val) → length vars ≡ r .variables → b < size r → (t : ℕ) (x ms : List Val) → walk (size r) r q b vars ls ≡ jumped t x ms → (t < size r) × (J (flowOf r) t ≡ true)
-  jumps-into-J q b vars ls e l t x ms h = go _ (walk-alike (size r) q b vars vars ls l (ok .ranked .below b l) (alike-self _ _ vars (omega arith)))
+  pub jumps-into-J : (q b : ℕ) (vars ls : List Val) → length vars ≡ r .variables → b < size r → J (flowOf r) b ≡ true → (t : ℕ) (x ms : List Val) → walk (size r) r q b vars ls ≡ jumped t x ms → (t < size r) × (J (flowOf r) t ≡ true)
+  jumps-into-J q b vars ls e l i t x ms h = go _ (walk-alike (size r) q b vars vars ls l (J-led r b l i) (ok .ranked .below b l) (alike-self _ _ vars (omega arith)))
     where
       go : (d : Round) → Rounds r (walk (size r) r q b vars ls) d → (t < size r) × (J (flowOf r) t ≡ true)
       go d (both-jumped u x y ls p q m j w) =
@@ -127,7 +126,7 @@ module _ (r : Rule) (ok : Proper r) where
   unfolding lineRound
   on-plan q b vars ls e l j =
       go _ _
-      (walk-alike (size r) q b vars (spread (r .variables) (LC (flowOf r)) (columnsOf (r .variables) (LC (flowOf r)) vars)) ls l (ok .ranked .below b l)
+      (walk-alike (size r) q b vars (spread (r .variables) (LC (flowOf r)) (columnsOf (r .variables) (LC (flowOf r)) vars)) ls l (J-led r b l j) (ok .ranked .below b l)
       (alike-less _ _ _ _ _ (λ k i p. sym (shared (flowOf r) b k l i j) ∙ p) (spread-alike (LC (flowOf r)) (r .variables) vars (ok .few) (omega arith))))
     where
       go : (c d : Round) → Rounds r c d → narrowed r d ≡ narrowed r c

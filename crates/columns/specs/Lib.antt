@@ -3,3 +3,4 @@ pub mod Proper
 pub mod Row
 pub mod Alike
 pub mod Range
+pub mod Living

@@ -3,5 +3,7 @@ pub mod Counts
 pub mod Smallest
 pub mod Reached
 pub mod Columns
+pub mod Led
+pub mod Agreeing
 pub mod Masks
 pub mod Values

@@ -77,13 +77,19 @@ module _ (n : ℕ) (seed : ℕ → Bool) (edge : ℕ → ℕ → Bool) where
           (λ l. inr (stays k (no-larger n (after k) (after (suc k)) (grows k) l)))
           (less-or (countTo n (after k)) (countTo n (after (suc k))))
 
-  inside : (u : ℕ → Bool) → Closed n seed edge u → (k : ℕ) → Within n (after k) u
-  inside u c zero b h p = c .holds b h (sym (after-none b h) ∙ p)
-  inside u c (suc k) b h p =
-      ⊎-elim
-      (λ q. inside u c k b h q)
-      (λ r. c .back b (r .0) h (r .1) (r .2) (inside u c k (r .0) (r .1) (r .3)))
-      (grown-case n edge (after k) b (sym (after-more k b h) ∙ p))
+  -- what holds of the seed and goes back along edges holds of the set
+  module _ (P : ℕ → Type 0) (holds : (b : ℕ) → b < n → seed b ≡ true → P b) (back : (b t : ℕ) → b < n → t < n → edge b t ≡ true → P t → P b) where
+    inside : (k b : ℕ) → b < n → after k b ≡ true → P b
+    inside zero b h p = holds b h (sym (after-none b h) ∙ p)
+    inside (suc k) b h p =
+        ⊎-elim
+        (λ q. inside k b h q)
+        (λ r. back b (r .0) h (r .1) (r .2) (inside k (r .0) (r .1) (r .3)))
+        (grown-case n edge (after k) b (sym (after-more k b h) ∙ p))
+
+    pub closure-all : (b : ℕ) → b < n → closure n seed edge b ≡ true → P b
+    unfolding closure
+    closure-all = inside n
 
   pub still-closed : (s : ℕ → Bool) → Within n seed s → Still n edge s → Closed n seed edge s
   still-closed s i w = record { holds = i; back = λ b t h l e p. w b h (grown-by n edge s b t l e p) }
@@ -95,5 +101,5 @@ module _ (n : ℕ) (seed : ℕ → Bool) (edge : ℕ → ℕ → Bool) where
         (λ c. record { holds = seeded n; back = λ b t h l e p. count-full n (after n) c b h })
         (λ w. still-closed (after n) (seeded n) w)
         (filling n);
-    least = λ u c. inside u c n;
+    least = λ u c. inside (λ b. u b ≡ true) (c .holds) (c .back) n;
   }

@@ -10,13 +10,13 @@ use lib.ListN.{length, take, drop, replicate}
 use denote.Ref.{RefT}
 use Rattle.definitions.specs.Values.{Word, number, value, fault, settled, negation, sum, difference, quotient, remainder}
 use Rattle.definitions.specs.Rule.{Add, Multiply, Divide, Remainder, Less, Equal, And, Or}
-use Rattle.definitions.specs.Rule.{Expr, Cond, Const, Var, Neg, Op, Compare, Not, Join, Stmt, Set, Emit, End, Goto, Jump, Stop, If, Block, Rule}
+use Rattle.definitions.specs.Rule.{Expr, Cond, Const, Var, Neg, Op, Case, Compare, Not, Join, Stmt, Set, Emit, End, Goto, Jump, Stop, If, Block, Rule}
 use Rattle.definitions.specs.Grammar.{Got, got, refused, then, twos, exprTag, opTag, badExpr, condTag, compareTag, notTag, joinTag, badCond, stmtTag, noStmt, endTag, badEnd}
 use Rattle.definitions.specs.Grammar.{targetsOf, exprAt, condAt, endAt, blockFrom, blocksTo, headed, ruleOf}
 use Rattle.definitions.specs.Meaning.{flaw, eval, holds}
 use Rattle.definitions.specs.Direct.{start, step, steps, exit, walk, advance, after}
-use Rattle.definitions.specs.Columns.{flowOf, some, reads, looks, endLooks, readFirst, sets, goesTo, jumpsTo, outputs, from, grown, growths, closure, inputsOf, outputsOf}
-use Rattle.definitions.specs.Plan.{maskOf, entryOf, entriesTo, planOf, same, planned, asPlan}
+use Rattle.definitions.specs.Columns.{flowOver, flowOf, ledTo, J, some, reads, looks, endLooks, readFirst, sets, goesTo, jumpsTo, outputs, from, grown, growths, closure, inputsOf, outputsOf}
+use Rattle.definitions.specs.Plan.{maskOf, entryOf, entriesTo, planBy, planOf, same, planned, asPlan}
 use Rattle.definitions.specs.Pages.{lengthIn, wordSum, checkOf, pageBody, pageOf, pagesTo, fileOf, sizeOk, allZero, lengthOk, pageAt, payloadTo, unpacked}
 use Rattle.definitions.specs.Batch.{startsOf, statesOf, recordOf, recordsOf, countTo, columnsOf, linesFrom, liveOf, mostOf}
 use Rattle.definitions.specs.Finder.{isNumber, lineIndex, linePart, foundIn}
@@ -175,23 +175,48 @@ meaning-hold =
 
 -- ---- columns and the plan
 
+-- block 0 stops; block 1, which nothing names but itself, emits variable 1 and jumps
+abbrev deadEnd : List ℕ
+deadEnd = 1 ∷ 2 ∷ 0 ∷ 2 ∷ 0x32 ∷ 0x21 ∷ 0x02 ∷ 1 ∷ 0x31 ∷ 1 ∷ []
+
+abbrev deadEndPlan : List ℕ
+deadEndPlan = 1 ∷ 2 ∷ 0 ∷ 2 ∷ 0 ∷ 0 ∷ 22 ∷ 0 ∷ 0 ∷ 0 ∷ 0 ∷ 0 ∷ 1 ∷ 0 ∷ 23 ∷ 0 ∷ 0 ∷ 0 ∷ 0 ∷ 0 ∷ 0 ∷ 0 ∷ 0x32 ∷ 0x21 ∷ 0x02 ∷ 1 ∷ 0x31 ∷ 1 ∷ []
+
+abbrev deadEndBefore : List ℕ
+deadEndBefore = 1 ∷ 2 ∷ 0 ∷ 2 ∷ 2 ∷ 0 ∷ 22 ∷ 0 ∷ 2 ∷ 0 ∷ 0 ∷ 0 ∷ 1 ∷ 0 ∷ 23 ∷ 0 ∷ 2 ∷ 0 ∷ 2 ∷ 0 ∷ 1 ∷ 0 ∷ 0x32 ∷ 0x21 ∷ 0x02 ∷ 1 ∷ 0x31 ∷ 1 ∷ []
+
 pub ofColumns : List (Type 0)
 ofColumns =
     -- 23: FV: a set shields what comes after it, in statements and ending, but not its own expression
     ((readFirst (Set 0 (Var 0) ∷ []) Stop 0 ≡ true) × (readFirst (Set 0 (numeral 1) ∷ Emit (Var 0) ∷ []) Stop 0 ≡ false) × (readFirst [] asking 0 ≡ true) × (readFirst (Set 0 (numeral 1) ∷ []) asking 0 ≡ false))
     -- 24: BV: what a block sets, it does not need for the blocks after it
     ∷ ((inputsOf (flowOf (rule (setting ∷ reading ∷ []))) 0 0 ≡ false) × (outputsOf (flowOf (rule (setting ∷ reading ∷ []))) 0 0 ≡ true))
-    -- 25: J: its blocks have the same inputs, and tags count that nothing reaches
-    ∷ ((inputsOf (flowOf (rule (block [] Stop ∷ reading ∷ []))) 0 0 ≡ false) × (inputsOf (flowOf (rule (block [] Stop ∷ looping ∷ []))) 0 0 ≡ true))
+    -- 25: J: its blocks have the same inputs. A block that nothing leads to gives none, whatever it reads and names: no jump of its own leads to it, and none of its jumps brings a living block into J
+    ∷ ((inputsOf (flowOf (rule (block [] (Jump 1) ∷ looping ∷ []))) 0 0 ≡ true)
+    × ((inputsOf (flowOf (rule (block [] Stop ∷ looping ∷ []))) 0 0 ≡ false) × (inputsOf (flowOf (rule (block [] Stop ∷ looping ∷ []))) 1 0 ≡ false))
+    × (J (flowOf (rule (block [] Stop ∷ looping ∷ []))) 1 ≡ false)
+    × ((J (flowOf (rule (setting ∷ reading ∷ block [] (Jump 1) ∷ []))) 1 ≡ false) × (inputsOf (flowOf (rule (setting ∷ reading ∷ block [] (Jump 1) ∷ []))) 0 0 ≡ false)))
+    -- 25, chains: a chain goes along gotos and jumps, up and down, through either arm of an if whatever its condition, and begins at block 0 alone
+    ∷ ((ledTo (rule (block [] (Goto 1) ∷ block [] (Jump 2) ∷ block [] Stop ∷ [])) 2 ≡ true)
+    × (ledTo (rule (block [] (Jump 2) ∷ block [] Stop ∷ block [] (Jump 1) ∷ [])) 1 ≡ true)
+    × ((ledTo (rule (block [] (If failing (Goto 1) Stop) ∷ block [] Stop ∷ [])) 1 ≡ true) × (ledTo (rule (block [] (If holding Stop (Jump 1)) ∷ block [] Stop ∷ [])) 1 ≡ true))
+    × (ledTo (rule (block (Emit byZero ∷ []) (Goto 1) ∷ block [] Stop ∷ [])) 1 ≡ true)
+    × (ledTo (rule (block [] Stop ∷ block [] (Goto 2) ∷ block [] (Jump 1) ∷ [])) 2 ≡ false))
+    -- 25, tags: in a block that counts all tags do, also those of an arm that is never taken
+    ∷ ((readFirst (Emit (Case failing (Var 0) (numeral 1)) ∷ []) Stop 0 ≡ true) × (readFirst [] (If failing asking Stop) 0 ≡ true))
+    -- 25, bytes: a rule whose block 1 is dead: its plan has masks 0 everywhere; the plan that counts every block, as document 01 had it, has LC 2 and is 15 now
+    ∷ ((then (ruleOf deadEnd) (λ r n. got (planOf r deadEnd) n) ≡ got deadEndPlan 10)
+    × (then (ruleOf deadEnd) (λ r n. got (planBy (flowOver (λ _. true) r) r deadEnd) n) ≡ got deadEndBefore 10)
+    × (planned deadEndBefore ≡ refused 15 0))
     -- 26: no plan: another mask, a byte more, a rule that is too long
     ∷ ((planned (take 4 planR ++ (1 ∷ drop 5 planR)) ≡ refused 15 0) × (planned (planR ++ (0 ∷ [])) ≡ refused 15 0) × ((p : List ℕ) (r : Rule) → asPlan p (got r 4065) ≡ refused 15 0))
     ∷ []
 
 pub columns-hold : All ofColumns
 unfolding ofColumns twos exprAt condAt endAt blockFrom blocksTo headed ruleOf
-    some reads looks endLooks readFirst sets goesTo jumpsTo outputs from grown growths closure inputsOf maskOf entryOf entriesTo planOf same planned
+    some reads looks endLooks readFirst sets goesTo jumpsTo outputs from grown growths closure ledTo inputsOf maskOf entryOf entriesTo planBy same planned
 columns-hold =
-    ((refl, refl, refl, refl), ((refl, refl), ((refl, refl), ((refl, refl, λ p r. refl), tt))))
+    ((refl, refl, refl, refl), ((refl, refl), ((refl, (refl, refl), refl, (refl, refl)), ((refl, refl, (refl, refl), refl, refl), ((refl, refl), ((refl, refl, refl), ((refl, refl, λ p r. refl), tt)))))))
 
 -- ---- files
 
@@ -231,7 +256,7 @@ ofBatch =
 pub batch-hold : All ofBatch
 unfolding ofBatch twos exprAt condAt endAt blockFrom blocksTo headed ruleOf
     settled quotient eval holds step steps exit walk advance after
-    some reads looks endLooks readFirst sets goesTo jumpsTo outputs from grown growths closure inputsOf maskOf entryOf entriesTo planOf same planned
+    some reads looks endLooks readFirst sets goesTo jumpsTo outputs from grown growths closure ledTo inputsOf maskOf entryOf entriesTo planBy same planned
     startsOf recordsOf countTo columnsOf linesFrom liveOf mostOf ranReply runReply recordsIn tableIn
 batch-hold =
     (refl, (refl, ((refl, refl), (refl, tt))))
@@ -271,7 +296,7 @@ ofReplies =
 
 pub replies-hold : All ofReplies
 unfolding ofReplies twos exprAt condAt endAt blockFrom blocksTo headed ruleOf
-    steps exit walk advance after some reads looks endLooks readFirst sets goesTo jumpsTo outputs from grown growths closure inputsOf maskOf entryOf entriesTo planOf same planned
+    steps exit walk advance after some reads looks endLooks readFirst sets goesTo jumpsTo outputs from grown growths closure ledTo inputsOf maskOf entryOf entriesTo planBy same planned
     lengthIn wordSum checkOf pageBody pageOf pagesTo fileOf allZero lengthOk pageAt payloadTo unpacked startsOf countTo mostOf toRead toWrite toCompile replyIn ranReply runReply
 replies-hold =
     ((refl, refl), ((refl, refl, refl, refl), ((refl, refl, refl, refl, refl), ((refl, refl, refl, refl, refl, refl), ((refl, refl), tt)))))

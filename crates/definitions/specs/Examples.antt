@@ -12,8 +12,8 @@ use Rattle.definitions.specs.Grammar.{Got, got, refused, then, twos, exp
 use Rattle.definitions.specs.Spelling.{constantBytes, exprBytes, stmtBytes, endBytes, inTurn, blockBytes, bytesOf}
 use Rattle.definitions.specs.Meaning.{eval}
 use Rattle.definitions.specs.Direct.{State, unfinished, step, steps, exit, walk, start, advance, after}
-use Rattle.definitions.specs.Columns.{some, reads, endLooks, readFirst, sets, goesTo, jumpsTo, outputs, from, grown, growths, closure, inputsOf}
-use Rattle.definitions.specs.Plan.{maskOf, entryOf, entriesTo, planOf, same, planned}
+use Rattle.definitions.specs.Columns.{some, reads, endLooks, readFirst, sets, goesTo, jumpsTo, outputs, from, grown, growths, closure, ledTo, inputsOf}
+use Rattle.definitions.specs.Plan.{maskOf, entryOf, entriesTo, planBy, planOf, same, planned}
 use Rattle.definitions.specs.Pages.{wordSum, checkOf, pageBody, pageOf, pagesTo, fileOf, allZero, lengthOk, pageAt, payloadTo, unpacked}
 use Rattle.definitions.specs.Batch.{startsOf, recordsOf, countTo, columnsOf, linesFrom, liveOf, mostOf}
 use Rattle.definitions.specs.Calls.{Batch, refusal, toCompile, toWrite, ranReply, runReply, recordsIn, tableIn}
@@ -141,7 +141,7 @@ endless-after q (suc n) = rw (endless-after q n) (ap (λ k. record { finish = un
 
 pub examples-hold : All examples
 unfolding examples settled quotient remainder twos exprAt endAt blockFrom blocksTo headed ruleOf eval step steps exit walk advance after
-    some reads endLooks readFirst sets goesTo jumpsTo outputs from grown growths closure inputsOf maskOf entryOf entriesTo planOf same planned
+    some reads endLooks readFirst sets goesTo jumpsTo outputs from grown growths closure ledTo inputsOf maskOf entryOf entriesTo planBy same planned
     wordSum checkOf pageBody pageOf pagesTo fileOf startsOf recordsOf countTo columnsOf linesFrom liveOf mostOf
     toWrite ranReply runReply recordsIn tableIn
 examples-hold =

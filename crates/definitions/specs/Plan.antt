@@ -6,7 +6,7 @@ use lib.Dec.{eqb, leb}
 use lib.ListN.{length, take, drop, getD}
 use Rattle.definitions.specs.Rule.{Rule, Block, size}
 use Rattle.definitions.specs.Grammar.{Got, got, refused, blocksTo, ruleOf, longest, mostBlocks}
-use Rattle.definitions.specs.Columns.{flowOf, J, inputsOf, outputsOf, LC}
+use Rattle.definitions.specs.Columns.{Flow, flowOf, J, inputsOf, outputsOf, LC}
 
 -- sixteen bits as two bytes, the lower first
 abbrev pub le16 : ℕ → List ℕ
@@ -38,21 +38,24 @@ placeOf r s b = endOf (blocksTo (size r) (r .variables) s b)
 abbrev pub headSize : ℕ → ℕ
 headSize n = 6 + 8 * n
 
--- a block's entry: the offset of its body in the plan, its input and its output mask, 1 if it is in J and else 0
-unfoldable pub entryOf : Rule → List ℕ → ℕ → List ℕ
-entryOf r s b =
+-- a block's entry, by the rule's flow: the offset of its body in the plan, its input and its output mask, 1 if it is in J and else 0
+unfoldable pub entryOf : Flow → Rule → List ℕ → ℕ → List ℕ
+entryOf g r s b =
     le16 (placeOf r s b - 4 + headSize (size r))
-    ++ (le16 (maskOf (r .variables) (inputsOf (flowOf r) b))
-    ++ (le16 (maskOf (r .variables) (outputsOf (flowOf r) b))
-    ++ le16 (cond (J (flowOf r) b) 1 0)))
+    ++ (le16 (maskOf (r .variables) (inputsOf g b))
+    ++ (le16 (maskOf (r .variables) (outputsOf g b))
+    ++ le16 (cond (J g b) 1 0)))
 
-unfoldable pub entriesTo : Rule → List ℕ → ℕ → List ℕ
-entriesTo r s zero = []
-entriesTo r s (suc k) = entriesTo r s k ++ entryOf r s k
+unfoldable pub entriesTo : Flow → Rule → List ℕ → ℕ → List ℕ
+entriesTo g r s zero = []
+entriesTo g r s (suc k) = entriesTo g r s k ++ entryOf g r s k
 
--- the plan of a rule whose bytes are s: the header, LC, the entries, the rule without its header
-unfoldable pub planOf : Rule → List ℕ → List ℕ
-planOf r s = take 4 s ++ (le16 (maskOf (r .variables) (LC (flowOf r))) ++ (entriesTo r s (size r) ++ drop 4 s))
+-- the plan of a rule whose bytes are s, by its flow: the header, LC, the entries, the rule without its header
+unfoldable pub planBy : Flow → Rule → List ℕ → List ℕ
+planBy g r s = take 4 s ++ (le16 (maskOf (r .variables) (LC g)) ++ (entriesTo g r s (size r) ++ drop 4 s))
+
+abbrev pub planOf : Rule → List ℕ → List ℕ
+planOf r s = planBy (flowOf r) r s
 
 -- its size, for a rule of L bytes and n blocks
 abbrev pub planSize : ℕ → ℕ → ℕ

@@ -1,4 +1,5 @@
 // What each block of a rule reads, sets and names, and where it stands. A block's tags, read one after the other with no regard to what holds what, tell it.
+use closure::Blocks;
 use closure::Edges;
 use closure::Variables;
 use definitions::BLOCKS;
@@ -7,13 +8,15 @@ use definitions::VARIABLES;
 use rules::blocks::read_block;
 use rules::blocks::targets_of;
 ghost use mathlib.Core.Path.{_≡_};
-ghost use mathlib.Core.Bool.{true, false, _&&_};
+ghost use mathlib.Core.Bool.{true, false, _&&_, _||_};
 ghost use Prim.Native.Nat.{ℕ, _+_, _<_, _≤_};
 ghost use lib.Dec.{eqb};
 ghost use lib.ListN.{getD};
 ghost use mathlib.Core.List.{List};
 ghost use Rattle.definitions.specs.Rule.{Block, Rule};
 ghost use Rattle.definitions.specs.Grammar.{got, mostVariables, mostBlocks, blocksTo, ruleOf, longest};
+ghost use Rattle.definitions.specs.Columns.{among};
+ghost use Rattle.definitions.specs.Smallest.{Smallest};
 ghost use Rattle.definitions.specs.Plan.{endOf};
 ghost use Rattle.closure.specs.Tables.{edgeIn, variableIn};
 ghost use Rattle.flows.specs.Flow.{Ruled, Told};
@@ -89,16 +92,23 @@ fn reads_first(s: &[u8], from: usize, to: usize, k: u8) -> bool
     false
 }
 
-// What each of n blocks reads first, and what it sets.
+// Both of two tests.
+fn both(x: bool, y: bool) -> bool
+    ensures { λ r. ⌜ r ≡ (x && y) ⌝ }
+{
+    x && y
+}
+
+// What each of n blocks reads first, if it counts, and what it sets.
 struct Touched {
     reads: Variables,
     sets: Variables,
 }
 
-fn uses(s: &[u8], n: usize, places: &Places) -> Touched
+fn uses(s: &[u8], n: usize, places: &Places, counts: &Blocks) -> Touched
     requires { ⌜ (n ≤ mostBlocks) × ((b : ℕ) → b ≤ n → getD (now places) b 0 ≤ longest) ⌝ }
     ensures { λ r. ⌜ ((b k : ℕ) → b < n → k < mostVariables
-        → (variableIn (r .reads) b k ≡ readsFirst k false (partIn (now (s .entry)) (now (places .entry)) b))
+        → (variableIn (r .reads) b k ≡ (among (now (counts .entry)) b && readsFirst k false (partIn (now (s .entry)) (now (places .entry)) b)))
         × (variableIn (r .sets) b k ≡ has 0x20 k (partIn (now (s .entry)) (now (places .entry)) b))) ⌝ }
 {
     let mut reads = [false; BLOCKS * VARIABLES];
@@ -110,7 +120,7 @@ fn uses(s: &[u8], n: usize, places: &Places) -> Touched
         let k = (i % VARIABLES) as u8;
         let from = places[b];
         let to = places[b + 1];
-        reads[i] = reads_first(s, from, to, k);
+        reads[i] = both(counts[b], reads_first(s, from, to, k));
         sets[i] = holds(s, from, to, 0x20, k);
         i += 1;
     }
@@ -161,6 +171,61 @@ fn places_of(s: &[u8], n: u8, v: u8) -> Places
     out
 }
 
+// ---- the blocks that are led to
+
+// Whether block b names block t.
+fn names(gotos: &Edges, jumps: &Edges, b: usize, t: usize) -> bool
+    requires { ⌜ (b < mostBlocks) × (t < mostBlocks) ⌝ }
+    ensures { λ r. ⌜ r ≡ (edgeIn (now (gotos .entry)) b t || edgeIn (now (jumps .entry)) b t) ⌝ }
+{
+    let i = b * BLOCKS + t;
+    gotos[i] || jumps[i]
+}
+
+// An edge from each of n blocks to every block that names it.
+fn named_by(n: usize, gotos: &Edges, jumps: &Edges) -> Edges
+    requires { ⌜ n ≤ mostBlocks ⌝ }
+    ensures { λ r. ⌜ ((t b : ℕ) → t < n → b < mostBlocks → edgeIn r t b ≡ (edgeIn (now (gotos .entry)) b t || edgeIn (now (jumps .entry)) b t)) ⌝ }
+{
+    let mut out = [false; BLOCKS * BLOCKS];
+    let end = n * BLOCKS;
+    let mut i = 0;
+    while i < end {
+        let t = i / BLOCKS;
+        let b = i % BLOCKS;
+        out[i] = names(gotos, jumps, b, t);
+        i += 1;
+    }
+    out
+}
+
+// Block 0, and with a block all that it names.
+fn led_to(n: usize, gotos: &Edges, jumps: &Edges) -> Blocks
+    requires { ⌜ n ≤ mostBlocks ⌝ }
+    ensures { λ r. ⌜ Smallest n (λ b. eqb b 0) (λ t b. edgeIn (now (gotos .entry)) b t || edgeIn (now (jumps .entry)) b t) (among r) ⌝ }
+{
+    let mut entry = [false; BLOCKS];
+    entry[0] = true;
+    let edges = named_by(n, gotos, jumps);
+    closure::smallest(n, &entry, &edges)
+}
+
+// Of n blocks' edges those of the blocks that count.
+fn only(n: usize, counts: &Blocks, edges: &Edges) -> Edges
+    requires { ⌜ n ≤ mostBlocks ⌝ }
+    ensures { λ r. ⌜ ((b t : ℕ) → b < n → t < mostBlocks → edgeIn r b t ≡ (among (now (counts .entry)) b && edgeIn (now (edges .entry)) b t)) ⌝ }
+{
+    let mut out = [false; BLOCKS * BLOCKS];
+    let end = n * BLOCKS;
+    let mut i = 0;
+    while i < end {
+        let b = i / BLOCKS;
+        out[i] = both(counts[b], edges[i]);
+        i += 1;
+    }
+    out
+}
+
 // Where the blocks of a rule stand, and its flow: FV and BV, gotos and jumps.
 pub struct Flows {
     pub places: Places,
@@ -178,11 +243,14 @@ pub fn flow_of(s: &[u8]) -> Flows
     let v = s[1];
     let count = n as usize;
     let places = places_of(s, n, v);
-    let touched = uses(s, count, &places);
+    let all_gotos = named(s, count, &places, 0x30);
+    let all_jumps = named(s, count, &places, 0x31);
+    let led = led_to(count, &all_gotos, &all_jumps);
+    let touched = uses(s, count, &places, &led);
     let fv = touched.reads;
     let bv = touched.sets;
-    let gotos = named(s, count, &places, 0x30);
-    let jumps = named(s, count, &places, 0x31);
+    let gotos = only(count, &led, &all_gotos);
+    let jumps = only(count, &led, &all_jumps);
     Flows {
         places,
         fv,

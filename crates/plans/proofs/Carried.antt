@@ -60,14 +60,14 @@ module _ (p : List ℕ) (a : Accepted p) where
   long = rule-header (carried p) (ruleIn p) (a .next) carried-rule
 
   pub plan-long : length p ≡ planSize (size (ruleIn p)) (length (carried p))
-  plan-long = sym (ap length (whole .bytes)) ∙ plan-length (ruleIn p) (carried p) long
+  plan-long = sym (ap length (whole .bytes)) ∙ plan-length (flowOf (ruleIn p)) (ruleIn p) (carried p) long
 
   pub head-fits : headSize (size (ruleIn p)) ≤ length p
   head-fits = omega (arith, plan-long, long)
 
   -- the header
   byte : (i : ℕ) → i < 4 → getD p i 0 ≡ getD (carried p) i 0
-  byte i h = sym (ap (λ x. getD x i 0) (whole .bytes)) ∙ plan-byte (ruleIn p) (carried p) long i h
+  byte i h = sym (ap (λ x. getD x i 0) (whole .bytes)) ∙ plan-byte (flowOf (ruleIn p)) (ruleIn p) (carried p) long i h
 
   pub at-variables : getD p 1 0 ≡ ruleIn p .variables
   at-variables = byte 1 (omega arith) ∙ sym (carried-in .variables-are)
@@ -79,7 +79,7 @@ module _ (p : List ℕ) (a : Accepted p) where
   at-blocks = byte 3 (omega arith) ∙ sym (carried-in .blocks-are)
 
   pub at-lc : wordAt p 4 ≡ maskOf (ruleIn p .variables) (LC (flowOf (ruleIn p)))
-  at-lc = sym (ap (λ x. wordAt x 4) (whole .bytes)) ∙ plan-lc (ruleIn p) (carried p) long
+  at-lc = sym (ap (λ x. wordAt x 4) (whole .bytes)) ∙ plan-lc (flowOf (ruleIn p)) (ruleIn p) (carried p) long
 
   -- the columns of a line are the ones in LC
   pub columns-counted : (lc n : ℕ) → lc ≡ wordAt p 4 → n ≡ countTo (getD p 1 0) (bitOf lc) → n ≡ columns (ruleIn p)
@@ -87,12 +87,12 @@ module _ (p : List ℕ) (a : Accepted p) where
 
   -- the bodies follow the entries
   pub at-bodies : bodiesAt p ≡ headSize (size (ruleIn p))
-  at-bodies = sym (ap bodiesAt (whole .bytes)) ∙ plan-bodies (ruleIn p) (carried p) long (carried-in .blocks-from)
+  at-bodies = sym (ap bodiesAt (whole .bytes)) ∙ plan-bodies (flowOf (ruleIn p)) (ruleIn p) (carried p) long (carried-in .blocks-from)
 
   -- an entry
   module _ (b : ℕ) (h : b < size (ruleIn p)) where
-    word : (i : ℕ) → i + 1 < 8 → wordAt p (6 + (8 * b + i)) ≡ wordAt (entryOf (ruleIn p) (carried p) b) i
-    word i l = sym (ap (λ x. wordAt x (6 + (8 * b + i))) (whole .bytes)) ∙ plan-entry (ruleIn p) (carried p) long b i h l
+    word : (i : ℕ) → i + 1 < 8 → wordAt p (6 + (8 * b + i)) ≡ wordAt (entryOf (flowOf (ruleIn p)) (ruleIn p) (carried p) b) i
+    word i l = sym (ap (λ x. wordAt x (6 + (8 * b + i))) (whole .bytes)) ∙ plan-entry (flowOf (ruleIn p)) (ruleIn p) (carried p) long b i h l
 
     pub at-past : 4 ≤ placeOf (ruleIn p) (carried p) b
     at-past = place-past (carried p) (ruleIn p) (a .next) carried-rule b (omega arith)

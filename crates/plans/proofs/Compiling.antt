@@ -8,6 +8,7 @@ use lib.Seq.{getD-take}
 use Rattle.buffers.specs.Words.{over}
 use Rattle.definitions.specs.Rule.{Rule}
 use Rattle.definitions.specs.Grammar.{Got, got, refused, then, ruleOf, blocksIn}
+use Rattle.definitions.specs.Columns.{flowOf}
 use Rattle.definitions.specs.Plan.{planOf, planSize, endOf}
 use Rattle.definitions.specs.Pages.{unpacked}
 use Rattle.definitions.specs.Calls.{toRead, toCompile, bytesIn, Wrote}
@@ -74,7 +75,7 @@ ready {file} {buffer} n o e =
       four = four;
       first = sym (getD-take n buffer 3 0 (omega arith));
       what = rw bytes (c .2);
-      sized = plan-length (c .0) (take n buffer) (omega arith) ∙ rw (long, rule-in (take n buffer) (c .0) _ is .blocks-are);
+      sized = plan-length (flowOf (c .0)) (c .0) (take n buffer) (omega arith) ∙ rw (long, rule-in (take n buffer) (c .0) _ is .blocks-are);
     }
 
 module _ {file : List ℕ} {n : ℕ} {buffer : List ℕ} (d : Ready file n buffer) (total : ℕ) (is : total ≡ planSize (getD buffer 3 0) n) where

@@ -9,8 +9,8 @@ use lib.ListN.{length, take, drop, getD, length-append, length-drop, take-append
 use lib.Seq.{take-at, drop-at, getD-append-add, getD-take, drop-append-le, length-take-le}
 use Rattle.definitions.specs.Rule.{Rule, size}
 use Rattle.definitions.specs.Grammar.{blocksTo}
-use Rattle.definitions.specs.Columns.{flowOf, LC}
-use Rattle.definitions.specs.Plan.{le16, maskOf, headSize, entryOf, entriesTo, planOf, planSize, wordAt, bodiesAt, carried}
+use Rattle.definitions.specs.Columns.{Flow, LC}
+use Rattle.definitions.specs.Plan.{le16, maskOf, headSize, entryOf, entriesTo, planBy, planSize, wordAt, bodiesAt, carried}
 
 -- a number's two bytes are the number
 pub word-le16 : (n : ℕ) (xs : List ℕ) → wordAt (le16 n ++ xs) 0 ≡ n
@@ -50,66 +50,66 @@ word-in xs x rest body k i e h l =
     ∙ append-assoc (take k xs) (x ++ rest) body ∙ ap (λ (ys : List ℕ). take k xs ++ ys) (append-assoc x rest body) in
     rw f (word-past (take k xs) (x ++ (rest ++ body)) k i (length-take-le k xs h) ∙ rw (List·getD-append x (rest ++ body) 0 i (omega arith), List·getD-append x (rest ++ body) 0 (i + 1) l))
 
-module _ (r : Rule) (s : List ℕ) where
-  entry-length : (b : ℕ) → length (entryOf r s b) ≡ 8
+module _ (g : Flow) (r : Rule) (s : List ℕ) where
+  entry-length : (b : ℕ) → length (entryOf g r s b) ≡ 8
   unfolding entryOf
   entry-length b = refl
 
-  pub entries-length : (k : ℕ) → length (entriesTo r s k) ≡ 8 * k
+  pub entries-length : (k : ℕ) → length (entriesTo g r s k) ≡ 8 * k
   unfolding entriesTo
   entries-length zero = refl
   entries-length (suc k) = simp (length-append, entries-length k, entry-length) (omega arith)
 
   -- the entries, from entry b on
-  from-entry : (b k : ℕ) → b < k → (xs : List ℕ) × (drop (8 * b) (entriesTo r s k) ≡ entryOf r s b ++ xs)
+  from-entry : (b k : ℕ) → b < k → (xs : List ℕ) × (drop (8 * b) (entriesTo g r s k) ≡ entryOf g r s b ++ xs)
   unfolding entriesTo
   from-entry b zero h = absurd (omega arith)
   from-entry b (suc k) h = ⊎-elim last (λ l. earlier l (from-entry b k l)) (eq-or-lt-of-le (le-of-suc-le-suc h))
     where
-      last : b ≡ k → (xs : List ℕ) × (drop (8 * b) (entriesTo r s (suc k)) ≡ entryOf r s b ++ xs)
-      last e = ([], rw e (drop-at (entriesTo r s k) (entryOf r s k) (8 * k) (entries-length k) ∙ sym (append-nil (entryOf r s k))))
+      last : b ≡ k → (xs : List ℕ) × (drop (8 * b) (entriesTo g r s (suc k)) ≡ entryOf g r s b ++ xs)
+      last e = ([], rw e (drop-at (entriesTo g r s k) (entryOf g r s k) (8 * k) (entries-length k) ∙ sym (append-nil (entryOf g r s k))))
 
-      earlier : b < k → (xs : List ℕ) × (drop (8 * b) (entriesTo r s k) ≡ entryOf r s b ++ xs)
-          → (xs : List ℕ) × (drop (8 * b) (entriesTo r s (suc k)) ≡ entryOf r s b ++ xs)
+      earlier : b < k → (xs : List ℕ) × (drop (8 * b) (entriesTo g r s k) ≡ entryOf g r s b ++ xs)
+          → (xs : List ℕ) × (drop (8 * b) (entriesTo g r s (suc k)) ≡ entryOf g r s b ++ xs)
       earlier l ih = (
-        ih .0 ++ entryOf r s k,
-        drop-append-le (8 * b) (entriesTo r s k) (entryOf r s k) (omega (arith, entries-length k)) ∙ rw (ih .1) (append-assoc (entryOf r s b) (ih .0) (entryOf r s k)),
+        ih .0 ++ entryOf g r s k,
+        drop-append-le (8 * b) (entriesTo g r s k) (entryOf g r s k) (omega (arith, entries-length k)) ∙ rw (ih .1) (append-assoc (entryOf g r s b) (ih .0) (entryOf g r s k)),
       )
 
-  pub plan-length : 4 ≤ length s → length (planOf r s) ≡ planSize (size r) (length s)
-  unfolding planOf
+  pub plan-length : 4 ≤ length s → length (planBy g r s) ≡ planSize (size r) (length s)
+  unfolding planBy
   plan-length h = simp (length-append, length-take-le 4 s h, length-drop, entries-length) (omega arith)
 
   -- the word i of entry b
-  pub plan-entry : 4 ≤ length s → (b i : ℕ) → b < size r → i + 1 < 8 → wordAt (planOf r s) (6 + (8 * b + i)) ≡ wordAt (entryOf r s b) i
-  unfolding planOf
+  pub plan-entry : 4 ≤ length s → (b i : ℕ) → b < size r → i + 1 < 8 → wordAt (planBy g r s) (6 + (8 * b + i)) ≡ wordAt (entryOf g r s b) i
+  unfolding planBy
   plan-entry h b i l j =
       let f = from-entry b (size r) l in
-      past-six (take 4 s) (entriesTo r s (size r)) (drop 4 s) (maskOf (r .variables) (LC (flowOf r))) (length-take-le 4 s h) (8 * b + i)
-      ∙ word-in (entriesTo r s (size r)) (entryOf r s b) (f .0) (drop 4 s) (8 * b) i (f .1) (omega (arith, entries-length (size r))) (omega (arith, entry-length b))
+      past-six (take 4 s) (entriesTo g r s (size r)) (drop 4 s) (maskOf (r .variables) (LC g)) (length-take-le 4 s h) (8 * b + i)
+      ∙ word-in (entriesTo g r s (size r)) (entryOf g r s b) (f .0) (drop 4 s) (8 * b) i (f .1) (omega (arith, entries-length (size r))) (omega (arith, entry-length b))
 
-  pub plan-lc : 4 ≤ length s → wordAt (planOf r s) 4 ≡ maskOf (r .variables) (LC (flowOf r))
-  unfolding planOf
-  plan-lc h = parts-lc (take 4 s) (entriesTo r s (size r)) (drop 4 s) (maskOf (r .variables) (LC (flowOf r))) (length-take-le 4 s h)
+  pub plan-lc : 4 ≤ length s → wordAt (planBy g r s) 4 ≡ maskOf (r .variables) (LC g)
+  unfolding planBy
+  plan-lc h = parts-lc (take 4 s) (entriesTo g r s (size r)) (drop 4 s) (maskOf (r .variables) (LC g)) (length-take-le 4 s h)
 
   -- a plan's header is the rule's, and what follows its entries is what follows the rule's header
-  plan-head : 4 ≤ length s → take 4 (planOf r s) ≡ take 4 s
-  unfolding planOf
-  plan-head h = take-at (take 4 s) (le16 (maskOf (r .variables) (LC (flowOf r))) ++ (entriesTo r s (size r) ++ drop 4 s)) 4 (length-take-le 4 s h)
+  plan-head : 4 ≤ length s → take 4 (planBy g r s) ≡ take 4 s
+  unfolding planBy
+  plan-head h = take-at (take 4 s) (le16 (maskOf (r .variables) (LC g)) ++ (entriesTo g r s (size r) ++ drop 4 s)) 4 (length-take-le 4 s h)
 
-  plan-body : 4 ≤ length s → drop (headSize (size r)) (planOf r s) ≡ drop 4 s
-  unfolding planOf
-  plan-body h = parts-body (take 4 s) (entriesTo r s (size r)) (drop 4 s) (maskOf (r .variables) (LC (flowOf r))) (length-take-le 4 s h) (8 * size r) (entries-length (size r))
+  plan-body : 4 ≤ length s → drop (headSize (size r)) (planBy g r s) ≡ drop 4 s
+  unfolding planBy
+  plan-body h = parts-body (take 4 s) (entriesTo g r s (size r)) (drop 4 s) (maskOf (r .variables) (LC g)) (length-take-le 4 s h) (8 * size r) (entries-length (size r))
 
   -- a byte of the header
-  pub plan-byte : 4 ≤ length s → (i : ℕ) → i < 4 → getD (planOf r s) i 0 ≡ getD s i 0
-  plan-byte h i l = sym (getD-take 4 (planOf r s) i 0 l) ∙ ap (λ (xs : List ℕ). getD xs i 0) (plan-head h) ∙ getD-take 4 s i 0 l
+  pub plan-byte : 4 ≤ length s → (i : ℕ) → i < 4 → getD (planBy g r s) i 0 ≡ getD s i 0
+  plan-byte h i l = sym (getD-take 4 (planBy g r s) i 0 l) ∙ ap (λ (xs : List ℕ). getD xs i 0) (plan-head h) ∙ getD-take 4 s i 0 l
 
   -- block 0 begins right after the header, so its offset is past the entries
-  pub plan-bodies : 4 ≤ length s → 1 ≤ size r → bodiesAt (planOf r s) ≡ headSize (size r)
+  pub plan-bodies : 4 ≤ length s → 1 ≤ size r → bodiesAt (planBy g r s) ≡ headSize (size r)
   unfolding entryOf blocksTo
   plan-bodies h l = plan-entry h 0 0 l (omega arith) ∙ word-le16 _ [] ∙ zero-add (headSize (size r))
 
   -- a rule's plan carries the rule
-  pub plan-carries : 4 ≤ length s → 1 ≤ size r → carried (planOf r s) ≡ s
+  pub plan-carries : 4 ≤ length s → 1 ≤ size r → carried (planBy g r s) ≡ s
   plan-carries h l = rw (plan-bodies h l, plan-head h, plan-body h) (take-append-drop 4 s)

@@ -10,5 +10,6 @@ pub mod Carried
 pub mod Exactly
 pub mod Files
 pub mod Promises
+pub mod Older
 pub mod Planned
 pub mod Constants

@@ -54,7 +54,7 @@ exactly-columns plan r n e inputs =
 -- a rule's plan is accepted, and as that rule
 pub compiled-accepted : (s : List ℕ) (r : Rule) (n : ℕ) → ruleOf s ≡ got r n → length s ≤ longest → planned (planOf r s) ≡ got r n
 compiled-accepted s r n e h =
-    let c : carried (planOf r s) ≡ s = plan-carries r s (rule-header s r n e) (rule-in s r n e .blocks-from) in
+    let c : carried (planOf r s) ≡ s = plan-carries (flowOf r) r s (rule-header s r n e) (rule-in s r n e .blocks-from) in
     is-plan (planOf r s) r n .1 (record { rule = ap ruleOf c ∙ e; short = omega (arith, rule-end s r n e); bytes = ap (planOf r) c })
 
 -- what `compile` writes is a plan for the file's own rule

@@ -10,6 +10,7 @@ use Rattle.buffers.specs.Words.{over}
 use Rattle.buffers.proofs.Laws.{over-start, over-next}
 use Rattle.definitions.specs.Rule.{Rule, size}
 use Rattle.definitions.specs.Grammar.{Got, got, refused, readOf, ruleOf, blocksIn, longest}
+use Rattle.definitions.specs.Columns.{flowOf}
 use Rattle.definitions.specs.Plan.{planOf, planSize, same, bodiesAt, carried, planned}
 use Rattle.definitions.specs.declared.Refusal.{Refusal}
 use Rattle.definitions.specs.declared.Read.the-variants as read
@@ -30,7 +31,7 @@ use Rattle.plans.proofs.Ruling.{rule-has-block}
 pub compared : (s : List ℕ) (r : Rule) (m : ℕ) → ruleOf s ≡ got r m → (p : List ℕ) (size : ℕ) → size ≡ planSize (blocksIn s) (length s)
     → (old new : List ℕ) → new ≡ over old 0 (planOf r s) → {b : Bool} → b ≡ same (take size new) p → b ≡ same (planOf r s) p
 compared s r m e p size es old new w q =
-    let long : length (planOf r s) ≡ size = plan-length r s (rule-header s r m e) ∙ rw (rule-in s r m e .blocks-are) (sym es) in
+    let long : length (planOf r s) ≡ size = plan-length (flowOf r) r s (rule-header s r m e) ∙ rw (rule-in s r m e .blocks-are) (sym es) in
     let part : take size new ≡ planOf r s = rw (w, over-start old (planOf r s)) (take-at (planOf r s) _ size long) in
     q ∙ ap (λ l. same l p) part
 
@@ -62,7 +63,7 @@ module _ (p : List ℕ) where
   pub cut-entry : length p < 8 → takenOf (planned p) ≡ taken.NotPlan
   cut-entry h = not-plan (λ r n a.
       let l = rule-has-block (carried p) r n (a .rule) in
-      omega (arith, ap length (a .bytes), plan-length r (carried p) (omega arith), rule-in (carried p) r n (a .rule) .blocks-from))
+      omega (arith, ap length (a .bytes), plan-length (flowOf r) r (carried p) (omega arith), rule-in (carried p) r n (a .rule) .blocks-from))
 
   -- where there are no bodies, what is carried is at most a header
   pub cut-bodies : length p < bodiesAt p → takenOf (planned p) ≡ taken.NotPlan

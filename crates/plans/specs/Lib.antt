@@ -2,3 +2,4 @@ pub mod Laid
 pub mod Taken
 pub mod Accepted
 pub mod Promised
+pub mod Older

@@ -7,6 +7,7 @@ ghost use mathlib.Core.List.{List, _++_};
 ghost use mathlib.Core.Bool.{cond};
 ghost use Prim.Native.Nat.{ℕ, _+_, _*_, _≤_, _<_};
 ghost use lib.ListN.{length, getD};
+ghost use Rattle.definitions.specs.Columns.{flowOf};
 ghost use Rattle.definitions.specs.Plan.{le16, same, headSize, planSize, bodiesAt, entriesTo, planOf};
 ghost use Rattle.definitions.specs.Grammar.{mostBlocks, longest};
 ghost use Rattle.definitions.specs.Rule.{Rule};
@@ -59,7 +60,7 @@ pub fn put_entries(
 )
     requires { ⌜ (n ≤ mostBlocks) × ((6 + 8 * n ≤ length (now out)) × Inside n (now places)) ⌝ }
     ensures { λ _. ⌜ ((r : Rule) (s : List ℕ) → Laid r s n (now (places .entry)) (now (inputs .entry)) (now (outputs .entry)) (now (j .entry))
-        → now (out .exit) ≡ over (now (out .entry)) 6 (entriesTo r s n)) ⌝ }
+        → now (out .exit) ≡ over (now (out .entry)) 6 (entriesTo (flowOf r) r s n)) ⌝ }
 {
     let mut b = 0;
     while b < n {

@@ -16,6 +16,7 @@ use Rattle.definitions.specs.Grammar.{Got, got, refused, then, ruleOf, longest}
 use Rattle.definitions.specs.Pages.{mostPages, pageSize, lengthIn, checkIn, checkOf, pageIn, payloadOf, lengthOk, fillerOk, sizeOk, pageAt, payloadTo, unpacked, fileOf}
 use Rattle.definitions.specs.Calls.{refusal, toRead, toWrite, toCompile, replyIn, Wrote, Batch, Ran, ranReply, runReply, rowsOf, columns, mostBudget}
 use Rattle.definitions.specs.Finder.{mostRows, mostQuota}
+use Rattle.definitions.specs.Columns.{flowOf}
 use Rattle.definitions.specs.Plan.{planOf, planned}
 use Rattle.definitions.specs.declared.Reply.{Reply}
 use Rattle.definitions.specs.declared.Reply.the-variants.{Done}
@@ -122,7 +123,7 @@ unfolding toCompile
 compile-within file =
     of-file file (λ s r. planOf r s) (λ s r n h e.
     let few = rule-in s r n e .blocks-to in
-    omega (arith, plan-length r s (rule-header s r n e)))
+    omega (arith, plan-length (flowOf r) r s (rule-header s r n e)))
 
 -- ---- the most rounds
 

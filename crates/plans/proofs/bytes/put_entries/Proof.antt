@@ -6,6 +6,7 @@ use native.Mathlib.Omega.{arith}
 use lib.ListN.{length}
 use Rattle.buffers.specs.Words.{over}
 use Rattle.definitions.specs.Rule.{Rule}
+use Rattle.definitions.specs.Columns.{flowOf}
 use Rattle.definitions.specs.Plan.{entriesTo}
 use Rattle.plans.specs.Laid.{Laid}
 use Rattle.plans.proofs.Laying.{nothing, one-entry}
@@ -14,7 +15,7 @@ use Rattle.plans.proofs.bytes.put_entries.Tie as tie
 
 abbrev Inv-loop : tie.InvT-loop
 Inv-loop out₀ n places inputs outputs j b₀ out b =
-    (b ≤ n) × (length out ≡ length out₀) × ((r : Rule) (s : List ℕ) → Laid r s n places inputs outputs j → out ≡ over out₀ 6 (entriesTo r s b))
+    (b ≤ n) × (length out ≡ length out₀) × ((r : Rule) (s : List ℕ) → Laid r s n places inputs outputs j → out ≡ over out₀ 6 (entriesTo (flowOf r) r s b))
 
 abbrev μ-loop : tie.MeasureT-loop
 μ-loop out₀ n places inputs outputs j b₀ out b = n - b
@@ -50,7 +51,7 @@ returns : tie.Need-returns Inv-loop μ-loop
 returns c =
     let l = c .before .loop in
     let e : l .b ≡ c .before .before .before .args .n = omega arith in
-    λ r s laid. l .inv .2 r s laid ∙ ap (λ (k : ℕ). over (c .before .before .before .args .out .now) 6 (entriesTo r s k)) e
+    λ r s laid. l .inv .2 r s laid ∙ ap (λ (k : ℕ). over (c .before .before .before .args .out .now) 6 (entriesTo (flowOf r) r s k)) e
 
 pub put-entries-spec : {M : Type 1} → statement M
 put-entries-spec =
