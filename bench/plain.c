@@ -1,5 +1,7 @@
 #include "plain.h"
 
+#include "../include/tapsquirrel.h" /* how records and lines lie */
+
 #include <assert.h>
 #include <stdint.h>
 #include <string.h>
@@ -14,8 +16,9 @@ enum { UNFINISHED, STOPPED, ZERO_DIVISOR, OUT_OF_RANGE, QUOTA_USED };
 enum { HEADER_SIZE = 4, MOST_VARIABLES = 16, MOST_BLOCKS = 64 };
 
 struct row {
-    const unsigned char *at; /* the next byte to run */
-    int fault;               /* the first fault met, or 0 */
+    const unsigned char *at;       /* the next byte to run */
+    int fault;                     /* the first fault met, or 0 */
+    const unsigned char *fault_at; /* the operator that met it */
     int store[MOST_VARIABLES];
     int *labels;
     unsigned label_count;
@@ -51,16 +54,18 @@ static const unsigned char *skip(const unsigned char *at)
 }
 
 /* The first fault stands; work goes on with a 0, which can do no harm before the fault is looked at. */
-static int64_t fault(struct row *row, int kind)
+static int64_t fault(struct row *row, const unsigned char *tag, int kind)
 {
-    if (row->fault == 0)
+    if (row->fault == 0) {
         row->fault = kind;
+        row->fault_at = tag;
+    }
     return 0;
 }
 
-static int64_t in_range(struct row *row, int64_t x)
+static int64_t in_range(struct row *row, const unsigned char *tag, int64_t x)
 {
-    return x < INT32_MIN || x > INT32_MAX ? fault(row, OUT_OF_RANGE) : x;
+    return x < INT32_MIN || x > INT32_MAX ? fault(row, tag, OUT_OF_RANGE) : x;
 }
 
 static int32_t constant(struct row *row)
@@ -109,31 +114,32 @@ static int64_t choice(struct row *row)
 
 static int64_t expression(struct row *row)
 {
+    const unsigned char *tag = row->at++;
     int64_t x, y;
-    switch (*row->at++) {
+    switch (*tag) {
     case CONSTANT:
         return constant(row);
     case VARIABLE:
         return row->store[*row->at++];
     case NEGATE:
-        return in_range(row, -expression(row));
+        return in_range(row, tag, -expression(row));
     case ADD:
         x = expression(row);
-        return in_range(row, x + expression(row));
+        return in_range(row, tag, x + expression(row));
     case SUBTRACT:
         x = expression(row);
-        return in_range(row, x - expression(row));
+        return in_range(row, tag, x - expression(row));
     case MULTIPLY:
         x = expression(row);
-        return in_range(row, x * expression(row));
+        return in_range(row, tag, x * expression(row));
     case DIVIDE:
         x = expression(row);
         y = expression(row);
-        return y == 0 ? fault(row, ZERO_DIVISOR) : in_range(row, x / y);
+        return y == 0 ? fault(row, tag, ZERO_DIVISOR) : in_range(row, tag, x / y);
     case REMAINDER:
         x = expression(row);
         y = expression(row);
-        return y == 0 ? fault(row, ZERO_DIVISOR) : x % y;
+        return y == 0 ? fault(row, tag, ZERO_DIVISOR) : x % y;
     default: /* CASE */
         return choice(row);
     }
@@ -219,15 +225,15 @@ unsigned plain_run(const unsigned char *rule, unsigned len, unsigned lc_mask, un
 {
     const unsigned char *starts[MOST_BLOCKS];
     unsigned arguments = rule[2], most_rounds = 0;
-    unsigned line_size = 2 + (unsigned)__builtin_popcount(lc_mask);
+    unsigned columns = (unsigned)__builtin_popcount(lc_mask);
     int *line = work;
 
     find_blocks(rule, len, starts);
-    memset(out, 0, sizeof *out * rows * (3 + quota));
-    memset(work, 0, sizeof *work * rows * line_size);
+    memset(out, 0, sizeof *out * rows * TAP_RECORD_WORDS(quota));
+    memset(work, 0, sizeof *work * rows * TAP_LINE_WORDS(columns));
     for (unsigned number = 0; number < rows; number++) {
-        int *record = out + number * (3 + quota);
-        struct row row = {.labels = record + 3, .quota = quota};
+        int *record = out + number * TAP_RECORD_WORDS(quota);
+        struct row row = {.labels = record + TAP_RECORD_HEAD, .quota = quota};
         unsigned block = 0, rounds = 0;
         int status = UNFINISHED;
 
@@ -236,9 +242,11 @@ unsigned plain_run(const unsigned char *rule, unsigned len, unsigned lc_mask, un
             rounds++;
             status = run_round(&row, starts, &block);
         }
-        record[0] = status;
-        record[1] = (int)rounds;
-        record[2] = (int)row.label_count;
+        record[TAP_STATUS] = status;
+        record[TAP_ROUNDS] = (int)rounds;
+        record[TAP_LABEL_COUNT] = (int)row.label_count;
+        if (row.fault)
+            record[TAP_FAULT_PLACE] = (int)(row.fault_at - rule);
         if (status == UNFINISHED)
             line = put_line(line, number, block, row.store, lc_mask);
         if (rounds > most_rounds)

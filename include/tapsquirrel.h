@@ -22,8 +22,11 @@ extern "C" {
 #define TAP_FILE_BYTES 4096
 #define TAP_PLAN_BYTES 4578
 
+/* A record's words before its labels, and how many they are. */
+enum { TAP_STATUS, TAP_ROUNDS, TAP_LABEL_COUNT, TAP_FAULT_PLACE, TAP_RECORD_HEAD };
+
 /* The words of a row's record, and of its line under a plan with so many columns (tap_columns). */
-#define TAP_RECORD_WORDS(quota) (3 + (quota))
+#define TAP_RECORD_WORDS(quota) (TAP_RECORD_HEAD + (quota))
 #define TAP_LINE_WORDS(columns) (2 + (columns))
 
 /* What no batch and no plan exceeds. */
@@ -61,8 +64,10 @@ uint64_t tap_columns(const uint8_t *plan, size_t plan_len);
 /*
  * Runs a plan over up to TAP_MOST_ROWS rows, whose arguments lie row after row in values, for at most budget rounds each.
  * A row's record goes to out, TAP_RECORD_WORDS(quota) words: status (0 unfinished, 1 stopped, 2 zero divisor,
- * 3 out of range, 4 quota), rounds, number of labels, labels, zeros. An unfinished row's line goes to work,
- * TAP_LINE_WORDS(columns) words: row, next block, the plan's loop columns. Value: the most rounds of any row.
+ * 3 out of range, 4 quota), rounds, number of labels, the fault's place, labels, zeros. The fault's place is, for
+ * status 2 and 3, the offset in the rule, its header included, of the operator that faulted; otherwise 0. An
+ * unfinished row's line goes to work, TAP_LINE_WORDS(columns) words: row, next block, the plan's loop columns.
+ * Value: the most rounds of any row.
  */
 uint64_t tap_run(const uint8_t *plan, size_t plan_len, uint32_t rows, const int32_t *values, size_t values_len,
                  uint32_t budget, uint32_t quota, int32_t *out, size_t out_len, int32_t *work, size_t work_len);

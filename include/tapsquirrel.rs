@@ -28,9 +28,16 @@ pub const RULE_BYTES: usize = 4064;
 pub const FILE_BYTES: usize = 4096;
 pub const PLAN_BYTES: usize = 4578;
 
+/// Where a record has its status and, after rounds and number of labels, the fault's place.
+pub const STATUS: usize = 0;
+pub const FAULT_PLACE: usize = 3;
+
+/// The words of a record before its labels.
+pub const RECORD_HEAD: usize = FAULT_PLACE + 1;
+
 /// The words of a row's record.
 pub const fn record_words(quota: u32) -> usize {
-    3 + quota as usize
+    RECORD_HEAD + quota as usize
 }
 
 /// The words of an unfinished row's line, under a plan with so many [`columns`].

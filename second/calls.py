@@ -72,11 +72,12 @@ def find(rows, quota, columns, row, result, working):
 
 def record(outcome, quota):
     unused = [0] * (quota - len(outcome.labels))
-    return [outcome.status, outcome.rounds, len(outcome.labels), *outcome.labels, *unused]
+    head = [outcome.status, outcome.rounds, len(outcome.labels), outcome.fault_offset]
+    return head + outcome.labels + unused
 
 
 def record_size(quota):
-    return 3 + quota
+    return 4 + quota
 
 
 def line_size(columns):

@@ -1,18 +1,21 @@
 """Counts what a stream and its answers exercise: python3 second/covers.py stream answers
 
 Fails, and says what is missing, unless every reply of every call, every status, every kind of found
-part, and every kind of dead blocks in plans made, run and outdated has come up.
+part, every kind of dead blocks in plans made, run and outdated, and every kind of place of a fault by
+every operator has come up.
 """
 
 import sys
 from collections import Counter
 
-from calls import record_size
+from calls import MOST_COLUMNS, MOST_LABELS, MOST_ROWS, record_size
 from dead import KINDS, dead_kinds, old_plan
-from direct import UNFINISHED
+from direct import OUT_OF_RANGE, UNFINISHED, ZERO_DIVISOR
+from faults import FAULTS, PLACES, fault_at
 from files import payload_of
 from plan import carried_rule, compile_rule
 from refusal import Refusal
+from rule import OPERATORS, parse
 from stream import COMPILE, READ, WRITE, BadRequest, Bytes, Run, requests
 
 NAMES = {READ: "read", WRITE: "write", COMPILE: "compile"}
@@ -23,6 +26,10 @@ REFUSALS = {
     "run": range(12, 16),
 }
 STATUSES = range(5)
+FAULTED = (ZERO_DIVISOR, OUT_OF_RANGE)
+FAULT_WORD = 3  # of a record
+CLEAN_AFTER_FAULT = "run ok, a row without a fault after one with"
+OLD_ROOM, OLD_RECORDS = "run refused 12 at 0, room for records before K4", "find empty, records as before K4"
 OUTDATED, STILL_GOOD = "old plan refused 15", "old plan still good, dead block"
 
 
@@ -31,7 +38,11 @@ def wanted():
     names += [f"{call} refused {number}" for call, numbers in REFUSALS.items() for number in numbers]
     names += ["run refused 12 at 0", "run refused 12 at 1"]
     names += [f"run status {status}" for status in STATUSES]
-    names += ["find record", "find line", "find empty"]
+    names += [f"find {part}" for part in ("record", "record of a later row", "record of a fault", "line",
+                                          "line of a later row", "empty")]
+    names += [OLD_ROOM, OLD_RECORDS, CLEAN_AFTER_FAULT]
+    names += [f"fault {status} at {tag:02x}" for status, tag in FAULTS]
+    names += [f"fault at {tag:02x}, {place}" for place in PLACES for tag in OPERATORS]
     names += [f"{shown}, {kind}" for shown in ("compile ok", "run ok", OUTDATED) for kind in KINDS]
     return names + [STILL_GOOD]
 
@@ -42,10 +53,27 @@ def seen_in(request, answer):
         return seen_in_bytes(request, reply_name(NAMES[request.kind], answer))
     if isinstance(request, Run):
         return seen_in_run(request, answer)
+    return seen_in_find(request, answer)
+
+
+def seen_in_find(request, answer):
     if answer == "-":
-        return ["find empty"]
+        return ["find empty", OLD_RECORDS] if only_one_word_short(request) else ["find empty"]
     status = request.result[request.row * record_size(request.quota)]
-    return ["find line" if status == UNFINISHED else "find record"]
+    name = "find line" if status == UNFINISHED else "find record"
+    names = [name, f"{name} of a later row"] if request.row else [name]
+    has_offset = status in FAULTED and int(answer.split()[FAULT_WORD])
+    return names + ["find record of a fault"] if has_offset else names
+
+
+def only_one_word_short(find):
+    """Whether nothing but the fourth word of the records is missing."""
+    within_limits = find.rows <= MOST_ROWS and find.quota <= MOST_LABELS and find.columns <= MOST_COLUMNS
+    return within_limits and find.row < find.rows and has_old_size(find.rows, find.quota, len(find.result))
+
+
+def has_old_size(rows, quota, size):
+    return rows > 0 and size == rows * (record_size(quota) - 1)
 
 
 def seen_in_bytes(request, name):
@@ -61,15 +89,37 @@ def with_kinds(shown, rule):
 def seen_in_run(request, answer):
     reply, result, _ = answer.split(" | ")
     if reply.startswith("refused 12"):
-        return ["run refused 12", f"run refused 12 at {reply.split()[2]}"]
+        names = ["run refused 12", f"run refused 12 at {reply.split()[2]}"]
+        is_old = has_old_size(request.rows, request.quota, request.result_room)
+        return names + [OLD_ROOM] if is_old else names
     if reply.startswith("refused 15"):
         return ["run refused 15", *seen_in_outdated(request.plan)]
     if reply.startswith("refused"):
         return [reply_name("run", reply)]
-    records_end = request.rows * record_size(request.quota)
-    words = result.split()[:records_end]
-    names = ["run ok", *[f"run status {status}" for status in words[::record_size(request.quota)]]]
-    return names + seen_in_accepted(carried_rule(request.plan))
+    rule, size = carried_rule(request.plan), record_size(request.quota)
+    words = result.split()
+    records = [list(map(int, words[row * size:(row + 1) * size])) for row in range(request.rows)]
+    names = ["run ok", *[f"run status {record[0]}" for record in records]]
+    return names + seen_in_accepted(rule) + seen_in_faults(parse(rule), records)
+
+
+def seen_in_faults(tree, records):
+    names, faults = [], 0
+    for status, rounds, _, offset, *_ in records:
+        if status in FAULTED:
+            faults += 1
+            names += seen_in_fault(status, fault_at(tree, offset, rounds))
+        elif faults:
+            names.append(CLEAN_AFTER_FAULT)
+    return names
+
+
+def seen_in_fault(status, fault):
+    """Nothing for an offset with no operator, as no right answer gives."""
+    if fault is None:
+        return []
+    by_place = [f"fault at {fault.tag:02x}, {place}" for place in fault.places]
+    return [f"fault {status} at {fault.tag:02x}", *by_place]
 
 
 def seen_in_outdated(plan):

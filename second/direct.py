@@ -13,13 +13,15 @@ UNFINISHED, STOPPED, ZERO_DIVISOR, OUT_OF_RANGE, QUOTA_USED = range(5)
 class RowEnds(Exception):
     """Raised from any depth, as nothing of the row comes after it."""
 
-    def __init__(self, status):
+    def __init__(self, status, fault_offset=0):
         self.status = status
+        self.fault_offset = fault_offset
 
 
 class Outcome(NamedTuple):
     status: int
     rounds: int
+    fault_offset: int  # of the operator that faulted, in the rule; 0 if none did
     labels: list
     next_block: int  # where the next round would start; of meaning only while unfinished
     store: list
@@ -33,8 +35,8 @@ def run_row(rule, arguments, budget, quota):
         try:
             block = run_round(rule, block, store, labels, quota)
         except RowEnds as end:
-            return Outcome(end.status, begun, labels, block, store)
-    return Outcome(UNFINISHED, budget, labels, block, store)
+            return Outcome(end.status, begun, end.fault_offset, labels, block, store)
+    return Outcome(UNFINISHED, budget, 0, labels, block, store)
 
 
 def run_round(rule, block, store, labels, quota):
@@ -73,22 +75,22 @@ def evaluate(node, store):
     return MEANING[tag](store, *parts)
 
 
-def in_range(number):
+def in_range(offset, number):
     if not LEAST <= number <= GREATEST:
-        raise RowEnds(OUT_OF_RANGE)
+        raise RowEnds(OUT_OF_RANGE, offset)
     return number
 
 
-def quotient(x, y):
+def quotient(offset, x, y):
     """Rounded toward zero, where Python's own // rounds down; may be one too great for a value."""
     if y == 0:
-        raise RowEnds(ZERO_DIVISOR)
+        raise RowEnds(ZERO_DIVISOR, offset)
     size = abs(x) // abs(y)
     return size if (x < 0) == (y < 0) else -size
 
 
-def remainder(x, y):
-    return x - y * quotient(x, y)
+def remainder(offset, x, y):
+    return x - y * quotient(offset, x, y)
 
 
 def case(store, condition, if_holds, if_not):
@@ -96,15 +98,16 @@ def case(store, condition, if_holds, if_not):
 
 
 # Python works out operands from the left, and the right side of and/or only if it is needed.
+# An operator's offset, at, is told only of its own fault: one in an operand has been raised before.
 MEANING = {
     CONSTANT: lambda store, number: number,
     VARIABLE: lambda store, variable: store[variable],
-    NEGATE: lambda store, x: in_range(-evaluate(x, store)),
-    ADD: lambda store, x, y: in_range(evaluate(x, store) + evaluate(y, store)),
-    SUBTRACT: lambda store, x, y: in_range(evaluate(x, store) - evaluate(y, store)),
-    MULTIPLY: lambda store, x, y: in_range(evaluate(x, store) * evaluate(y, store)),
-    DIVIDE: lambda store, x, y: in_range(quotient(evaluate(x, store), evaluate(y, store))),
-    REMAINDER: lambda store, x, y: in_range(remainder(evaluate(x, store), evaluate(y, store))),
+    NEGATE: lambda store, at, x: in_range(at, -evaluate(x, store)),
+    ADD: lambda store, at, x, y: in_range(at, evaluate(x, store) + evaluate(y, store)),
+    SUBTRACT: lambda store, at, x, y: in_range(at, evaluate(x, store) - evaluate(y, store)),
+    MULTIPLY: lambda store, at, x, y: in_range(at, evaluate(x, store) * evaluate(y, store)),
+    DIVIDE: lambda store, at, x, y: in_range(at, quotient(at, evaluate(x, store), evaluate(y, store))),
+    REMAINDER: lambda store, at, x, y: in_range(at, remainder(at, evaluate(x, store), evaluate(y, store))),
     CASE: case,
     LESS: lambda store, x, y: evaluate(x, store) < evaluate(y, store),
     EQUAL: lambda store, x, y: evaluate(x, store) == evaluate(y, store),

@@ -4,13 +4,14 @@ import sys
 
 import calls
 from dice import Dice
+from faults import PLACES
 from files import pages_of
 from make_damage import damaged_file, damaged_rule, overlong_rule
 from make_finds import find_request
 from make_rules import any_rule, small_rule, stretched, with_dead
-from make_runs import endless, ends_late, full_batch, overlong_carried, run_request
+from make_runs import endless, ends_late, full_batch, overlong_carried, run_request, sure_fault_run
 from refusal import Refusal
-from rule import LONGEST_RULE
+from rule import LONGEST_RULE, OPERATORS
 from stream import COMPILE, LARGEST, READ, WRITE, Bytes, encode, numbers
 
 
@@ -70,7 +71,8 @@ def longest(kind):
 
 
 # What chance might leave out of a stream comes at its start.
-OPENING = (longest(READ), longest(WRITE), longest(COMPILE), full_batch, endless, ends_late, overlong_carried)
+OPENING = (longest(READ), longest(WRITE), longest(COMPILE), full_batch, endless, ends_late, overlong_carried,
+           *[sure_fault_run(tag, place) for place in PLACES for tag in OPERATORS])
 REQUESTS = ((3, read_request), (4, write_request), (3, compile_request), (9, run_request), (6, find_request))
 
 

@@ -3,15 +3,16 @@
 import calls
 from calls import MOST_COLUMNS, MOST_LABELS, MOST_ROWS, line_size, record_size
 from make_rules import number
-from make_runs import HUGE, few_rows
+from make_runs import HUGE, WRAPS, fault_rows, few_rows
 from stream import Find
 
 
 def good_find(dice):
     """Asks for a row of a run just made."""
-    run = few_rows(dice)
+    make = dice.pick((few_rows, few_rows, fault_rows))
+    run = make(dice)
     while run.rows == 0:
-        run = few_rows(dice)
+        run = make(dice)
     result, working = [0] * run.result_room, [0] * run.working_room
     calls.run(run.plan, run.rows, run.values, run.budget, run.quota, result, working)
     columns = run.working_room // run.rows - line_size(0)
@@ -40,7 +41,7 @@ def too_many_rows(dice, find):
 
 
 def quota_too_high(dice, find):
-    quota = dice.pick((MOST_LABELS + 1, 2**31, HUGE - 2, HUGE))
+    quota = dice.pick((MOST_LABELS + 1, 2**31, WRAPS, HUGE))
     enough = find.rows * record_size(quota)
     return find._replace(quota=quota, result=[1] * enough if enough < 200 else find.result)
 
@@ -53,6 +54,11 @@ def too_many_columns(dice, find):
 def short_result(dice, find):
     kept = len(find.result) - dice.pick((1, 1, dice.between(1, len(find.result))))
     return find._replace(result=find.result[:kept])
+
+
+def old_result(dice, find):
+    """As long as all records were before K4: a word too short for each row."""
+    return find._replace(result=find.result[:find.rows * (record_size(find.quota) - 1)])
 
 
 def no_rows(dice, find):
@@ -116,8 +122,8 @@ def junk(dice, find):
                          working=[dice.pick(few) for _ in range(len(find.working))])
 
 
-CHANGES = (row_too_high, too_many_rows, quota_too_high, too_many_columns, short_result, no_rows, no_line,
-           line_cut_off, short_working, line_beyond_count, two_lines, odd_status, other_columns,
+CHANGES = (row_too_high, too_many_rows, quota_too_high, too_many_columns, short_result, old_result, no_rows,
+           no_line, line_cut_off, short_working, line_beyond_count, two_lines, odd_status, other_columns,
            longer_buffers, junk)
 
 

@@ -2,18 +2,23 @@
 
 from calls import MOST_COLUMNS, MOST_LABELS, MOST_ROUNDS, MOST_ROWS, line_size, record_size
 from dead import old_plan
-from direct import LEAST
+from direct import LEAST, run_row
+from faults import fault_at
 from make_damage import damaged_plan, overlong_plan
+from make_faults import SURE, faulting, row_fault, sure_fault
 from make_rules import CORNERS, any_rule, corner_sums, forever, number, small_rule, tick, with_dead
 from plan import accept, carried_rule, compile_rule
+from rule import parse
 from stream import Run
 
 HUGE = 2**32 - 1
+WRAPS = 2**32 - record_size(0)  # a quota whose records would have a size that wraps to nothing
 
 
 def good_run(dice):
     """Few rows and rounds mostly; the large kinds are rare, as they are long in stream and time."""
-    make = dice.weighted(((100, few_rows), (30, corner_rows), (4, full_batch), (1, endless), (1, ends_late)))
+    make = dice.weighted(((100, few_rows), (30, corner_rows), (50, fault_rows), (4, full_batch), (1, endless),
+                          (1, ends_late)))
     return make(dice)
 
 
@@ -27,13 +32,39 @@ def few_rows_of(dice, rule):
 
 
 def corner_rows(dice):
-    """Any two corner values, and often the two pairs that division is known for."""
     rows = dice.between(1, 8)
+    return roomy_run(dice, corner_sums(dice), rows, 1, corner_pairs(dice, rows))
+
+
+def fault_rows(dice):
+    return fault_rows_of(dice, dice.pick((row_fault, sure_fault))(dice))
+
+
+def fault_rows_of(dice, fault):
+    rows = dice.between(1, 6)
+    return roomy_run(dice, faulting(dice, fault), rows, dice.between(1, 5), corner_pairs(dice, rows))
+
+
+def sure_fault_run(tag, place):
+    """A maker of runs whose first row faults by this tag in this kind of place: tries until one does."""
+    def make(dice):
+        while True:
+            run = fault_rows_of(dice, dice.pick(SURE[tag]))
+            tree = parse(carried_rule(run.plan))
+            outcome = run_row(tree, run.values[:tree.arguments], run.budget, run.quota)
+            fault = fault_at(tree, outcome.fault_offset, outcome.rounds)
+            if fault and fault.tag == tag and place in fault.places:
+                return run
+    return make
+
+
+def corner_pairs(dice, rows):
+    """Any two corner values for each row, and often the two pairs that division is known for."""
     values = []
     for _ in range(rows):
         pair = (dice.pick(CORNERS), dice.pick(CORNERS))
         values += dice.pick((pair, pair, (LEAST, -1), (dice.pick(CORNERS), 0)))
-    return roomy_run(dice, corner_sums(dice), rows, 1, values)
+    return values
 
 
 def full_batch(dice):
@@ -94,11 +125,13 @@ def budget_too_high(dice, run):
 
 
 def quota_too_high(dice, run):
-    return run._replace(quota=dice.pick((MOST_LABELS + 1, 2**31, HUGE - 2, HUGE)))
+    return run._replace(quota=dice.pick((MOST_LABELS + 1, 2**31, WRAPS, HUGE)))
 
 
 def small_result(dice, run):
-    return run._replace(result_room=max(run.result_room - dice.pick((1, 1, 2, run.result_room)), 0))
+    # One word less for each row is what records took before K4.
+    missing = dice.pick((1, 1, 2, run.rows, run.rows, run.result_room))
+    return run._replace(result_room=max(run.result_room - missing, 0))
 
 
 def small_working(dice, run):

@@ -1,7 +1,8 @@
 """The grammar of a rule: bytes in, a tree out, or a refusal with its place.
 
 A node is a tuple: its tag, then its parts in the order of the bytes. A part is again a node, or a
-plain number (a constant, a variable or a block).
+plain number (a constant, a variable or a block). An operator, which may fault, has the offset of its
+own tag as its first part.
 """
 
 from typing import NamedTuple
@@ -12,6 +13,7 @@ LONGEST_RULE = 4064
 HEADER_SIZE = 4
 
 CONSTANT, VARIABLE, NEGATE, ADD, SUBTRACT, MULTIPLY, DIVIDE, REMAINDER, CASE = range(0x01, 0x0A)
+OPERATORS = range(NEGATE, CASE)
 LESS, EQUAL, NOT, AND, OR = range(0x10, 0x15)
 SET, EMIT = range(0x20, 0x22)
 GOTO, JUMP, STOP, IF = range(0x30, 0x34)
@@ -29,12 +31,12 @@ VALUES = ("expression", "condition")
 PARTS = {
     CONSTANT: ("constant",),
     VARIABLE: ("variable",),
-    NEGATE: ("expression",),
-    ADD: ("expression", "expression"),
-    SUBTRACT: ("expression", "expression"),
-    MULTIPLY: ("expression", "expression"),
-    DIVIDE: ("expression", "expression"),
-    REMAINDER: ("expression", "expression"),
+    NEGATE: ("own offset", "expression"),
+    ADD: ("own offset", "expression", "expression"),
+    SUBTRACT: ("own offset", "expression", "expression"),
+    MULTIPLY: ("own offset", "expression", "expression"),
+    DIVIDE: ("own offset", "expression", "expression"),
+    REMAINDER: ("own offset", "expression", "expression"),
     CASE: ("condition", "expression", "expression"),
     LESS: ("expression", "expression"),
     EQUAL: ("expression", "expression"),
@@ -90,6 +92,7 @@ class Reader:
         self.at = HEADER_SIZE
         self.block_number = 0
         self.leaves = {
+            "own offset": self.own_offset,
             "constant": self.constant,
             "variable": self.variable,
             "later block": self.later_block,
@@ -130,6 +133,10 @@ class Reader:
             raise Refusal(9, len(self.rule))
         self.at += count
         return self.rule[self.at - count:self.at]
+
+    def own_offset(self):
+        # Takes no byte: the tag was the last one read.
+        return self.at - 1
 
     def constant(self):
         return int.from_bytes(self.take(4), "little", signed=True)

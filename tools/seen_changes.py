@@ -19,6 +19,8 @@ HELD = "    return page[PAYLOAD_AT"
 FOUND = "    rule = payload_of(file)\n"
 LABEL = "    label = evaluate(statement[1], store)\n"
 RAN = "        outcome = run_row(rule, arguments, budget, quota)\n"
+RECORDED = "        records += record(outcome, quota)\n"
+WORKED_OUT = "    return MEANING[tag](store, *parts)\n"
 MOST = "        most_rounds = max(most_rounds, outcome.rounds)\n"
 
 
@@ -26,6 +28,11 @@ def right_first(*signs):
     """Arguments are worked out in order, so the right side comes first if it is the first argument."""
     return [(f"evaluate(x, store) {sign} evaluate(y, store)", f"(lambda b, a: a {sign} b)(evaluate(y, store), evaluate(x, store))")
             for sign in signs]
+
+
+def other_place(place):
+    """Another word in the place of the fault's, the fourth of a record."""
+    return [(RECORDED, f"        words = record(outcome, quota)\n        words[3] = {place}\n        records += words\n")]
 
 
 CHANGES = {
@@ -37,10 +44,15 @@ CHANGES = {
                                                 ("evaluate(x, store) or evaluate", "evaluate(x, store) | evaluate")]),
     "division rounds down": ("direct.py", [("return size if (x < 0) == (y < 0) else -size", "return x // y")]),
     "the quota before the value": ("direct.py", [(LABEL + USED_UP, USED_UP + LABEL)]),
-    "a fault takes the labels": ("direct.py", [("(end.status, begun, labels,", "(end.status, begun, [] if end.status in (2, 3) else labels,")]),
+    "a fault takes the labels": ("calls.py", [(RAN, RAN + "        if outcome.status in (2, 3):\n            outcome = outcome._replace(labels=[])\n")]),
+    "a fault without its place": ("calls.py", other_place("0")),
+    "a fault's place without the header": ("calls.py", other_place("max(0, words[3] - 4)")),
+    "a fault's place by the outermost operator": ("direct.py", [(WORKED_OUT, (
+        "    try:\n    " + WORKED_OUT + "    except RowEnds as end:\n"
+        "        raise RowEnds(end.status, parts[0] if NEGATE <= tag <= REMAINDER else end.fault_offset)\n"))]),
     "a fault stops the batch": ("calls.py", [(MOST, MOST + (
         "        if outcome.status in (2, 3):\n            records += [0] * ((rows - row - 1) * record_size(quota))\n            break\n"))]),
-    "one store for all labels": ("calls.py", [(RAN, RAN.replace("quota)", "max(0, quota - sum(records[2::3 + quota])))"))]),
+    "one store for all labels": ("calls.py", [(RAN, RAN.replace("quota)", "max(0, quota - sum(records[2::record_size(quota)])))"))]),
     "the most rounds as a sum": ("calls.py", [(MOST, MOST.replace("max(most_rounds, outcome.rounds)", "most_rounds + outcome.rounds"))]),
     "an invented count of rounds": ("calls.py", [("[outcome.status, outcome.rounds,", "[outcome.status, len(outcome.labels),")]),
     "an invented count of labels": ("calls.py", [("outcome.rounds, len(outcome.labels),", "outcome.rounds, quota,")]),

@@ -1,11 +1,11 @@
-/* Rule R of the scope document: written to a file's bytes, read again, compiled, run over three rows, each row found. */
+/* Rule R of the scope document: written to a file's bytes, read again, compiled, run over four rows, each row found. */
 #include "tapsquirrel.h"
 
 #include <inttypes.h>
 #include <stdio.h>
 #include <stdlib.h>
 
-enum { ROWS = 3, BUDGET = 2, QUOTA = 4 };
+enum { ROWS = 4, BUDGET = 2, QUOTA = 4 };
 
 static const uint8_t rule[] = {
     0x01, 0x02, 0x01, 0x04,             /* form, variables, arguments, blocks */
@@ -58,13 +58,22 @@ static void print_words(const char *title, const int32_t *from, size_t count)
     printf("\n");
 }
 
+/* The operator that ended a row with a fault, by its offset in the rule. */
+static void print_fault(const int32_t *record)
+{
+    int32_t place = record[TAP_FAULT_PLACE];
+    if (place != 0)
+        printf("       fault %" PRId32 " at offset %" PRId32 ", tag %02X\n", record[TAP_STATUS], place, rule[place]);
+}
+
 static void print_row(const struct batch *b, uint32_t row)
 {
     uint64_t place = tap_find(b->result, b->result_len, b->work, b->work_len, ROWS, QUOTA, b->columns, row);
     printf("row %" PRIu32 ":", row);
-    if (tap_buffer(place) == TAP_IN_RESULT)
+    if (tap_buffer(place) == TAP_IN_RESULT) {
         print_words("record", b->result + tap_value(place), TAP_RECORD_WORDS(QUOTA));
-    else if (tap_buffer(place) == TAP_IN_WORK)
+        print_fault(b->result + tap_value(place));
+    } else if (tap_buffer(place) == TAP_IN_WORK)
         print_words("line", b->work + tap_value(place), TAP_LINE_WORDS(b->columns));
     else
         printf(" nowhere\n");
@@ -73,7 +82,7 @@ static void print_row(const struct batch *b, uint32_t row)
 int main(void)
 {
     static uint8_t file[TAP_FILE_BYTES], again[TAP_RULE_BYTES], plan[TAP_PLAN_BYTES];
-    static const int32_t values[ROWS] = {2, 0, -5};
+    static const int32_t values[ROWS] = {2, 0, -5, INT32_MAX};
 
     size_t file_len = accepted(tap_write(rule, sizeof rule, file, sizeof file));
     size_t rule_len = accepted(tap_read(file, file_len, again, sizeof again));

@@ -1,9 +1,9 @@
-//! Rule R of the scope document: written to a file's bytes, read again, compiled, run over three rows, each row found.
+//! Rule R of the scope document: written to a file's bytes, read again, compiled, run over four rows, each row found.
 
 #[path = "../../include/tapsquirrel.rs"]
 mod tapsquirrel;
 
-use tapsquirrel::{Found, Refusal};
+use tapsquirrel::{Found, Refusal, FAULT_PLACE, STATUS};
 
 const RULE: [u8; 45] = [
     0x01, 0x02, 0x01, 0x04, // form, variables, arguments, blocks
@@ -16,7 +16,7 @@ const RULE: [u8; 45] = [
 
 const BUDGET: u32 = 2;
 const QUOTA: u32 = 4;
-const VALUES: [i32; 3] = [2, 0, -5];
+const VALUES: [i32; 4] = [2, 0, -5, i32::MAX];
 
 fn print_row(row: u32, found: Found) {
     let (title, words) = match found {
@@ -29,6 +29,17 @@ fn print_row(row: u32, found: Found) {
         print!(" {word}");
     }
     println!();
+    if let Found::Record(record) = found {
+        print_fault(record);
+    }
+}
+
+// The operator that ended a row with a fault, by its offset in the rule.
+fn print_fault(record: &[i32]) {
+    let place = record[FAULT_PLACE];
+    if place != 0 {
+        println!("       fault {} at offset {place}, tag {:02X}", record[STATUS], RULE[place as usize]);
+    }
 }
 
 fn example() -> Result<(), Refusal> {

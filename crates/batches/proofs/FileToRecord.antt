@@ -1,25 +1,30 @@
 -- From a file, and from a rule that is written first, to the records: what `compile` writes, `run` accepts as the rule that was read, and what `run` leaves
 -- is that rule's direct run. All from the contracts of the calls. Assumes nothing.
-use Prim.Native.Nat.{ℕ, _*_}
+use Prim.Native.Nat.{ℕ, _*_, _<_}
 use mathlib.Core.Path.{_≡_, refl, sym, ap, _∙_}
 use mathlib.Core.Bool.{Bool, true, false, cond, not, _||_}
 use native.Mathlib.Omega.{arith}
 use mathlib.Core.List.{List}
 use lib.Dec.{eqb, ltb}
-use lib.ListN.{length, take}
-use Rattle.definitions.specs.Values.{Word}
+use lib.ListN.{length, take, drop}
+use Rattle.definitions.specs.Values.{Word, valuesIn}
 use Rattle.definitions.specs.Rule.{Rule}
 use Rattle.definitions.specs.Grammar.{Got, got, ruleOf}
 use Rattle.definitions.specs.Plan.{planned}
+use Rattle.definitions.specs.Pages.{unpacked}
+use Rattle.definitions.specs.Faulting.{Among, Tells}
 use Rattle.definitions.specs.Batch.{recordSize, lineSize}
 use Rattle.definitions.specs.Finder.{mostRows, mostQuota}
 use Rattle.definitions.specs.Calls.{Batch, mostBudget, columns, refusal, toWrite, toCompile, Wrote, ranReply, runReply, recordsIn, tableIn, Ran}
 use Rattle.definitions.specs.declared.Reply.{Reply}
 use Rattle.definitions.specs.declared.Reply.the-variants.{Done, Refused}
+use Rattle.pages.proofs.Trip.{Bytes, read-write}
+use Rattle.rules.proofs.Spelling.{row-tells}
 use Rattle.plans.specs.Promised.{ruleInFile, PlanFor}
+use Rattle.plans.proofs.Files.{rule-held}
 use Rattle.plans.proofs.Promises.{compiled, written-compiled}
-use Rattle.batches.specs.DirectRun.{DirectRun, RunsAs}
-use Rattle.batches.proofs.Promises.{direct}
+use Rattle.batches.specs.DirectRun.{DirectRun, RunsAs, finishIn}
+use Rattle.batches.proofs.Promises.{direct, recordAt}
 
 -- ---- a call under an accepted plan
 
@@ -84,3 +89,25 @@ pub rule-to-record :
     (s old : List ℕ) (n : ℕ) (file : List ℕ) → Wrote (toWrite s) old (Done n) file →
     (old' : List ℕ) (m : ℕ) (plan : List ℕ) → Wrote (toCompile (take n file)) old' (Done m) plan → RunsAs (ruleOf s) (take m plan)
 rule-to-record s old n file w old' m plan c = runs (written-compiled s old n file w old' m plan c)
+
+-- ---- 02, K4: a row's record tells where in the rule's own bytes the operator at fault stands, and 0 if none is
+
+module _ (s : List ℕ) (small : Bytes s) (read : Got Rule) (held : read ≡ ruleOf s) (plan : List ℕ) (runs-as : RunsAs read plan) where
+  row-told : (b : Batch) (out work : List Word) (most : ℕ) (out' work' : List Word) → b .plan ≡ plan → Ran b out work (Done most) out' work'
+      → (k : ℕ) → k < b .rows → Tells (Among 0 s) (finishIn (recordAt (b .quota) k out'))
+  row-told b out work most out' work' e ran k h =
+      let p = runs-as .plan-for in
+      rw (runs-as .direct-run b out work (Done most) out' work' e ran .row most k refl h) (row-tells s small (p .rule) (p .end) (sym held ∙ p .is) (b .quota) (b .budget) (valuesIn (take (p .rule .arguments) (drop (k * p .rule .arguments) (b .values)))))
+
+pub rule-told :
+    (s old : List ℕ) (n : ℕ) (file : List ℕ) → Bytes s → Wrote (toWrite s) old (Done n) file →
+    (old' : List ℕ) (m : ℕ) (plan : List ℕ) → Wrote (toCompile (take n file)) old' (Done m) plan →
+    (b : Batch) (out work : List Word) (most : ℕ) (out' work' : List Word) → b .plan ≡ take m plan → Ran b out work (Done most) out' work' →
+    (k : ℕ) → k < b .rows → Tells (Among 0 s) (finishIn (recordAt (b .quota) k out'))
+rule-told s old n file small w old' m plan c = row-told s small (ruleOf s) refl (take m plan) (rule-to-record s old n file w old' m plan c)
+
+pub file-told :
+    (file s : List ℕ) (m : ℕ) → Bytes file → unpacked file ≡ got s m → (old : List ℕ) (n : ℕ) (new : List ℕ) → Wrote (toCompile file) old (Done n) new →
+    (b : Batch) (out work : List Word) (most : ℕ) (out' work' : List Word) → b .plan ≡ take n new → Ran b out work (Done most) out' work' →
+    (k : ℕ) → k < b .rows → Tells (Among 0 s) (finishIn (recordAt (b .quota) k out'))
+file-told file s m small e old n new w = row-told s (read-write file s m small e .bytes) (ruleInFile file) (rule-held file s m e) (take n new) (file-to-record file old n new w)

@@ -51,7 +51,7 @@ abbrev pub statusOf : List Word → Word
 statusOf words = getD words 0 (pos 0)
 
 abbrev pub labelsOf : List Word → List Val
-labelsOf words = valuesIn (take (natAbs (getD words 2 (pos 0))) (drop 3 words))
+labelsOf words = valuesIn (take (natAbs (getD words 2 (pos 0))) (drop (recordSize 0) words))
 
 -- some batch holds a row with these arguments at place k, and its call, under this budget and quota, leaves these results
 pub record Called (plan : List ℕ) (r : Rule) (args : List Val) (N q k : ℕ) (results : List Word) : Type 0 where

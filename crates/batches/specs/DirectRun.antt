@@ -2,7 +2,8 @@
 use Prim.Native.Nat.{ℕ, _*_, _<_}
 use mathlib.Core.Path.{_≡_}
 use mathlib.Core.List.{List}
-use lib.ListN.{length, take, drop}
+use lib.IntN.{pos, natAbs}
+use lib.ListN.{length, take, drop, getD}
 use Rattle.definitions.specs.Values.{Word}
 use Rattle.definitions.specs.Rule.{Rule}
 use Rattle.definitions.specs.Grammar.{Got}
@@ -10,6 +11,7 @@ use Rattle.definitions.specs.Columns.{flowOf, LC}
 use Rattle.definitions.specs.Direct.{after}
 use Rattle.definitions.specs.Batch.{startAt, recordSize, recordOf, recordsOf, tableOf}
 use Rattle.definitions.specs.Calls.{Batch, refusal, left, rowsOf, ranReply, Ran}
+use Rattle.definitions.specs.declared.Finish.{Finish}
 use Rattle.definitions.specs.declared.Reply.{Reply}
 use Rattle.definitions.specs.declared.Reply.the-variants.{Done}
 use Rattle.plans.specs.Promised.{PlanFor}
@@ -28,3 +30,7 @@ pub record DirectRun (r : Rule) (b : Batch) (out work : List Word) (reply : Repl
 pub record RunsAs (read : Got Rule) (plan : List ℕ) : Type 0 where
   pub plan-for : PlanFor read plan
   pub direct-run : (b : Batch) (out work : List Word) (reply : Reply) (out' work' : List Word) → b .plan ≡ plan → Ran b out work reply out' work' → DirectRun (plan-for .rule) b out work reply out' work'
+
+-- 02, K4: how a row ended, by the words of its record
+abbrev pub finishIn : List Word → Finish
+finishIn words = record { status = natAbs (getD words 0 (pos 0)); place = natAbs (getD words 3 (pos 0)) }

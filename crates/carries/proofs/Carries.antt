@@ -12,7 +12,7 @@ use Rattle.definitions.specs.Values.{Word, Val, valuesIn}
 use Rattle.definitions.specs.declared.Finish.{Finish}
 use Rattle.definitions.specs.Rule.{Rule, size}
 use Rattle.definitions.specs.Columns.{flowOf, inputsOf, LC}
-use Rattle.definitions.specs.Direct.{State, Round, jumped, finished, joined, after, unfinished, goesOn}
+use Rattle.definitions.specs.Direct.{State, Round, jumped, finished, joined, afterFrom, after, unfinished, goesOn}
 use Rattle.definitions.proofs.Values.{values-length}
 use Rattle.definitions.proofs.Columns.{shared}
 use Rattle.columns.specs.OnPlan.{planWalk}
@@ -67,7 +67,7 @@ gone r s R P (both-finished t ms p p') how b ls vars e u = go (goesOn how) refl
 -- before the first round
 pub progress-none : (r : Rule) (q block count : ℕ) (labels vars : List Word) (k : InHand r q block (take count labels) vars) → count ≤ length labels
     → ProgressTo r (k .state) (after r q 0 (k .state)) (record { finish = unfinished; rounds = 0; block = block; count = count }) labels vars
-unfolding after
+unfolding afterFrom
 progress-none r q block count labels vars k h = record {
   finish = sym (k .sound .unended (k .going));
   begun = omega arith;
@@ -106,7 +106,7 @@ module _ {r : Rule} {q : ℕ} {s : State} {labels vars : List Word} (ok : Proper
     -- one round more
     pub progress-next : (e : RoundEnd) (labels' vars' : List Word) → endedAs (e .finish) (e .block) (valuesIn (take (e .count) labels')) (valuesIn vars') ≡ planWalk (size r) r q (c .block) (valuesIn vars) (valuesIn (take (c .count) labels)) → (goesOn (e .finish) ≡ true → e .finish ≡ unfinished) → e .count ≤ length labels'
         → ProgressTo r s (after r q (c .rounds + 1) s) (record { finish = e .finish; rounds = c .rounds + 1; block = e .block; count = e .count }) labels' vars'
-    unfolding after
+    unfolding afterFrom
     progress-next e labels' vars' walked u h =
         let ls = valuesIn (take (e .count) labels') in
         let g : Gone r here (joined here (roundOf r q here)) (e .finish) (e .block) ls (valuesIn vars') = gone r here _ _ both (e .finish) (e .block) ls (valuesIn vars') (walked ∙ same-round) u in

@@ -13,7 +13,8 @@ use Rattle.definitions.specs.Values.{Val, unset, Out, value, fault}
 use Rattle.definitions.specs.declared.Flaw.{Flaw}
 use Rattle.definitions.specs.declared.Finish.{Finish}
 use Rattle.definitions.specs.Rule.{Expr, Stmt, Set, Emit, End}
-use Rattle.definitions.specs.Meaning.{eval}
+use Rattle.definitions.specs.Spelling.{stmtSize}
+use Rattle.definitions.specs.Meaning.{Where, further, eval}
 use Rattle.definitions.specs.Direct.{Way, on, ended, onward, with, step, steps, faulted, quotaFull}
 use Rattle.definitions.specs.Columns.{reads, readFirst, sets, endLooks}
 use Rattle.definitions.proofs.Tests.{or-left, or-right, or-case}
@@ -59,18 +60,18 @@ module _ (v : ℕ) where
   ways-if A false a b c d g h = h
 
   -- ---- one statement
-  module _ (q : ℕ) (A : ℕ → Bool) (x y ls : List Val) (w : Alike v A x y) (a : Expr) (h : Agree (reads a) x y) where
-    set-alike : (i : ℕ) → i < v → Ways v (λ k. A k || eqb i k) (step q (Set i a) x ls) (step q (Set i a) y ls)
+  module _ (q : ℕ) (p : Where) (A : ℕ → Bool) (x y ls : List Val) (w : Alike v A x y) (a : Expr) (h : Agree (reads a) x y) where
+    set-alike : (i : ℕ) → i < v → Ways v (λ k. A k || eqb i k) (step q (Set i a) p x ls) (step q (Set i a) p y ls)
     unfolding step
     set-alike i l =
-        rw (eval-alike a x y h)
-        (ways-with _ (eval a y) ls _ _ (λ z. both-on (set x i z) (set y i z) ls refl refl (alike-set A x y i z l w)))
+        rw (eval-alike a (further p 2) x y h)
+        (ways-with _ (eval a (further p 2) y) ls _ _ (λ z. both-on (set x i z) (set y i z) ls refl refl (alike-set A x y i z l w)))
 
-    emit-alike : Ways v A (step q (Emit a) x ls) (step q (Emit a) y ls)
+    emit-alike : Ways v A (step q (Emit a) p x ls) (step q (Emit a) p y ls)
     unfolding step
     emit-alike =
-        rw (eval-alike a x y h)
-        (ways-with A (eval a y) ls _ _ (λ z. ways-if A (ltb (length ls) q) _ _ _ _ (both-on x y (ls ++ (z ∷ [])) refl refl w) (both-ended quotaFull ls refl refl)))
+        rw (eval-alike a (further p 1) x y h)
+        (ways-with A (eval a (further p 1) y) ls _ _ (λ z. ways-if A (ltb (length ls) q) _ _ _ _ (both-on x y (ls ++ (z ∷ [])) refl refl w) (both-ended quotaFull ls refl refl)))
 
 -- ---- all statements of a block
 
@@ -121,14 +122,14 @@ module _ (v : ℕ) (e : End) where
   unfolding readFirst
   looks-agree xs A x y c w = covered-agree [] (λ k. A k || sets xs k) (endLooks e) x y (covered-end xs A c) (λ k p. p) w
 
-  pub steps-alike : (q : ℕ) (xs : List Stmt) (A : ℕ → Bool) (x y ls : List Val) → Covered v xs e A → Alike v A x y → Ways v (λ k. A k || sets xs k) (steps q xs x ls) (steps q xs y ls)
+  pub steps-alike : (q : ℕ) (xs : List Stmt) (p : Where) (A : ℕ → Bool) (x y ls : List Val) → Covered v xs e A → Alike v A x y → Ways v (λ k. A k || sets xs k) (steps q xs p x ls) (steps q xs p y ls)
   unfolding steps sets readFirst
-  steps-alike q [] A x y ls c w = both-on x y ls refl refl (simp or-false w)
-  steps-alike q (Set i a ∷ xs) A x y ls c w =
+  steps-alike q [] p A x y ls c w = both-on x y ls refl refl (simp or-false w)
+  steps-alike q (Set i a ∷ xs) p A x y ls c w =
       ways-onward v (λ k. A k || eqb i k) _ _ _ _
-      (λ x y ls w. simp or-assoc at (steps-alike q xs (λ k. A k || eqb i k) x y ls (covered-set i a xs A c) w))
-      (set-alike v q A x y ls w a (covered-agree (Set i a ∷ xs) A (reads a) x y c (λ k p. or-left (reads a k) _ p) w) i (c .set-below i (or-left (eqb i i) _ (eq-eqb i i refl))))
-  steps-alike q (Emit a ∷ xs) A x y ls c w =
+      (λ x y ls w. simp or-assoc at (steps-alike q xs (further p (stmtSize (Set i a))) (λ k. A k || eqb i k) x y ls (covered-set i a xs A c) w))
+      (set-alike v q p A x y ls w a (covered-agree (Set i a ∷ xs) A (reads a) x y c (λ k p. or-left (reads a k) _ p) w) i (c .set-below i (or-left (eqb i i) _ (eq-eqb i i refl))))
+  steps-alike q (Emit a ∷ xs) p A x y ls c w =
       ways-onward v A _ _ _ _
-      (λ x y ls w. steps-alike q xs A x y ls (covered-emit a xs A c) w)
-      (emit-alike v q A x y ls w a (covered-agree (Emit a ∷ xs) A (reads a) x y c (λ k p. or-left (reads a k) _ p) w))
+      (λ x y ls w. steps-alike q xs (further p (stmtSize (Emit a))) A x y ls (covered-emit a xs A c) w)
+      (emit-alike v q p A x y ls w a (covered-agree (Emit a ∷ xs) A (reads a) x y c (λ k p. or-left (reads a k) _ p) w))

@@ -1,22 +1,24 @@
 -- Whatever stands in blocks that are not led to, the columns are the same, and a run, which enters none of them, is in the same state after any number of
--- rounds. Assumes nothing.
+-- rounds, in all but where a fault lies. Assumes nothing.
 use Prim.Native.Nat.{ℕ, zero, suc, _<_}
 use mathlib.Core.Path.{_≡_, refl, sym, ap, ap₂, _∙_}
-use mathlib.Core.Bool.{Bool, true, false, not, _&&_, _||_}
+use mathlib.Core.Bool.{Bool, true, false, cond, not, _&&_, _||_}
 use lib.Dec.{eqb}
 use mathlib.Core.List.{List}
 use Rattle.definitions.specs.Values.{Val}
 use Rattle.definitions.specs.Rule.{Block, Rule, size, blockOf}
-use Rattle.definitions.specs.Direct.{State, Round, goesOn, steps, walk, joined, advance, after}
+use Rattle.definitions.specs.Meaning.{nowhere}
+use Rattle.definitions.specs.Direct.{State, Round, goesOn, steps, walk, joined, origin, advanceFrom, afterFrom, after, unplaced}
 use Rattle.definitions.specs.Columns.{LedTo, at-entry, along, ledTo, flowOf, J, inputsOf, outputsOf, readFirst, sets, goesTo, jumpsTo}
 use Rattle.definitions.proofs.Tests.{or-left, both-ways, some-same}
 use Rattle.definitions.proofs.Led.{names-below, led-exactly, led-along, J-led}
 use Rattle.definitions.proofs.Agreeing.{Agree, same-inputs, same-outputs}
+use Rattle.definitions.proofs.Unplaced.{advance-unplaced}
 use Rattle.columns.specs.Proper.{Proper}
 use Rattle.columns.specs.Row.{SoundNow}
 use Rattle.columns.specs.Living.{SameLiving}
 use Rattle.columns.proofs.Walks.{through-same}
-use Rattle.columns.proofs.Rows.{advance-on, advance-done, after-now}
+use Rattle.columns.proofs.Rows.{after-now}
 
 -- ---- the same blocks are led to, and the columns are the same
 module _ (r other : Rule) (w : SameLiving r other) where
@@ -68,28 +70,29 @@ module _ (r other : Rule) (w : SameLiving r other) where
   pub living-outputs : (b k : ℕ) → b < size r → outputsOf (flowOf r) b k ≡ outputsOf (flowOf other) b k
   living-outputs b k l = same-outputs agreeing k b l
 
--- ---- the runs are the same
+-- ---- the runs are the same, in all but where a fault lies: what stands before a block may have another length
 module _ (r other : Rule) (ok : Proper r) (w : SameLiving r other) where
-  pub living-walk : (f q b : ℕ) (env ls : List Val) → b < size r → ledTo r b ≡ true → walk f other q b env ls ≡ walk f r q b env ls
+  pub living-walk : (f q b : ℕ) (env ls : List Val) → b < size r → ledTo r b ≡ true → walk f nowhere other q b env ls ≡ walk f nowhere r q b env ls
   unfolding walk
   living-walk zero q b env ls l e = refl
   living-walk (suc f) q b env ls l e =
       rw (w .same b l (led-exactly r b l .0 e))
-      (through-same r ok (blockOf r b .ending) _ _
+      (through-same r ok (blockOf r b .ending) nowhere _ _
       (λ t env ls p. let m = ok .goto-below b t l p in living-walk f q t env ls m (led-along r b t l m e (or-left (goesTo (blockOf r b .ending) t) _ p)))
-      (steps q (blockOf r b .body) env ls))
+      (steps q (blockOf r b .body) nowhere env ls))
 
-  living-advance : (q : ℕ) (s : State) → SoundNow r q s → advance other q s ≡ advance r q s
-  living-advance q s h = go (goesOn (s .finish)) refl
-    where
-      go : (on : Bool) → goesOn (s .finish) ≡ on → advance other q s ≡ advance r q s
-      go true p =
-          advance-on other q s p
-          ∙ ap (joined s) (ap (λ (f : ℕ). walk f other q (s .block) (s .vars) (s .labels)) (w .blocks) ∙ living-walk (size r) q (s .block) (s .vars) (s .labels) (h .block-below) (J-led r (s .block) (h .block-below) (h .block-in-J)))
-          ∙ (rw (advance-on r q s p))
-      go false p = advance-done other q s p ∙ rw (advance-done r q s p)
+  living-advance : (q : ℕ) (s : State) → s .block < size r → J (flowOf r) (s .block) ≡ true → advanceFrom nowhere other q s ≡ advanceFrom nowhere r q s
+  unfolding advanceFrom
+  living-advance q s l j =
+      ap (λ (x : Round). cond (goesOn (s .finish)) (joined s x) s)
+      (ap (λ (f : ℕ). walk f nowhere other q (s .block) (s .vars) (s .labels)) (w .blocks) ∙ living-walk (size r) q (s .block) (s .vars) (s .labels) l (J-led r (s .block) l j))
 
-  pub living-after : (q : ℕ) (s : State) → SoundNow r q s → (n : ℕ) → after other q n s ≡ after r q n s
-  unfolding after
+  pub living-after : (q : ℕ) (s : State) → SoundNow r q s → (n : ℕ) → unplaced (after other q n s) ≡ unplaced (after r q n s)
+  unfolding afterFrom
   living-after q s h zero = refl
-  living-after q s h (suc n) = ap (advance other q) (living-after q s h n) ∙ living-advance q (after r q n s) (after-now r q ok s h n)
+  living-after q s h (suc n) =
+      let g = after-now r q ok s h n in
+      advance-unplaced origin other q (after other q n s)
+      ∙ ap (advanceFrom nowhere other q) (living-after q s h n)
+      ∙ living-advance q (unplaced (after r q n s)) (g .block-below) (g .block-in-J)
+      ∙ sym (advance-unplaced origin r q (after r q n s))

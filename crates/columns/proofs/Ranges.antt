@@ -1,5 +1,6 @@
 -- Every value of a row lies in the range, if its arguments and the rule's constants do: those of every accepted rule do, as crate plans shows. Assumes nothing.
-use Prim.Native.Nat.{ℕ, zero, suc, _-_}
+use Prim.Native.Nat.{ℕ, zero, suc, _+_, _-_}
+use Rattle.definitions.specs.Spelling.{exprSize, condSize}
 use mathlib.Core.Path.{_≡_, refl}
 use mathlib.Core.Bool.{Bool, true, false, cond, _||_}
 use mathlib.Core.List.{List, [], _∷_, _++_}
@@ -12,8 +13,8 @@ use Rattle.definitions.specs.declared.Flaw.{Flaw}
 use Rattle.definitions.specs.declared.Kind.{Kind}
 use Rattle.definitions.specs.declared.Kind.the-variants.{ZeroDivisor, OutOfRange}
 use Rattle.definitions.specs.Rule.{Operator, Add, Subtract, Multiply, Divide, Remainder, Expr, Const, Var, Neg, Op, Case, Rule, size}
-use Rattle.definitions.specs.Meaning.{applied, handedUp, negated, operated, eval, holds}
-use Rattle.definitions.specs.Direct.{State, goesOn, Round, jumped, finished, start, joined, advance, after}
+use Rattle.definitions.specs.Meaning.{Where, further, applied, handedUp, negated, operated, eval, holds}
+use Rattle.definitions.specs.Direct.{State, goesOn, Round, jumped, finished, origin, start, joined, advanceFrom, advance, afterFrom, after}
 use Rattle.columns.specs.Range.{AllInRange, Bounded, worked, Constants, Ranged}
 use Rattle.definitions.specs.Limits.{InRange}
 use Rattle.columns.proofs.Keeping.{KeptRound, walk-kept}
@@ -46,40 +47,40 @@ applied-in Divide x y w e = divided-in y _ w e
 applied-in Remainder x y w e = divided-in y _ w e
 
 -- what is handed up is an operator's result
-handed-in : (o : Out Kind ℤ) (w : Val) → ((z : ℤ) → o ≡ value z → InRange z) → handedUp o ≡ value w → InRange (asWord w)
-handed-in (value z) w h e =
+handed-in : (p : Where) (o : Out Kind ℤ) (w : Val) → ((z : ℤ) → o ≡ value z → InRange z) → handedUp p o ≡ value w → InRange (asWord w)
+handed-in p (value z) w h e =
     let same : number z ≡ w = cc in
     rw (← same) (h z refl)
-handed-in (fault k) w h e = cc
+handed-in p (fault k) w h e = cc
 
-negated-in : (x w : Val) → negated x ≡ value w → InRange (asWord w)
-negated-in (number x) w e = handed-in (negation x) w (λ z. settled-again _ z) e
+negated-in : (p : Where) (x w : Val) → negated p x ≡ value w → InRange (asWord w)
+negated-in p (number x) w e = handed-in p (negation x) w (λ z. settled-again _ z) e
 
-operated-in : (o : Operator) (x y w : Val) → operated o x y ≡ value w → InRange (asWord w)
-operated-in o (number x) (number y) w e = handed-in (applied o x y) w (applied-in o x y) e
+operated-in : (p : Where) (o : Operator) (x y w : Val) → operated p o x y ≡ value w → InRange (asWord w)
+operated-in p o (number x) (number y) w e = handed-in p (applied o x y) w (applied-in o x y) e
 
-eval-in : (a : Expr) (env : List Val) (w : Val) → Bounded a → AllInRange env → eval a env ≡ value w → InRange (asWord w)
+eval-in : (a : Expr) (p : Where) (env : List Val) (w : Val) → Bounded a → AllInRange env → eval a p env ≡ value w → InRange (asWord w)
 unfolding eval Bounded
-eval-in (Const z) env w b h e =
+eval-in (Const z) p env w b h e =
     let same : number z ≡ w = cc in
     rw (← same) b
-eval-in (Var k) env w b h e =
+eval-in (Var k) p env w b h e =
     let same : getD env k unset ≡ w = cc in
     rw (← same) (h k)
-eval-in (Neg a) env w b h e = go (eval a env) e
+eval-in (Neg a) p env w b h e = go (eval a (further p 1) env) e
   where
-    go : (o : Out Flaw Val) → also o (λ x. negated x) ≡ value w → InRange (asWord w)
-    go (value x) e = negated-in x w e
+    go : (o : Out Flaw Val) → also o (λ x. negated p x) ≡ value w → InRange (asWord w)
+    go (value x) e = negated-in p x w e
     go (fault k) e = cc
-eval-in (Op o a c) env w b h e = go (eval a env) (eval c env) e
+eval-in (Op o a c) p env w b h e = go (eval a (further p 1) env) (eval c (further p (1 + exprSize a)) env) e
   where
-    go : (m n : Out Flaw Val) → also m (λ x. also n (λ y. operated o x y)) ≡ value w → InRange (asWord w)
-    go (value x) (value y) e = operated-in o x y w e
+    go : (m n : Out Flaw Val) → also m (λ x. also n (λ y. operated p o x y)) ≡ value w → InRange (asWord w)
+    go (value x) (value y) e = operated-in p o x y w e
     go (value x) (fault k) e = cc
     go (fault k) n e = cc
-eval-in (Case c a d) env w b h e = go (holds c env) (eval-in a env w (b .0) h) (eval-in d env w (b .1) h) e
+eval-in (Case c a d) p env w b h e = go (holds c (further p 1) env) (eval-in a (further p (1 + condSize c)) env w (b .0) h) (eval-in d (further p (1 + condSize c + exprSize a)) env w (b .1) h) e
   where
-    go : (m : Out Flaw Bool) → (eval a env ≡ value w → InRange (asWord w)) → (eval d env ≡ value w → InRange (asWord w)) → also m (λ t. cond t (eval a env) (eval d env)) ≡ value w → InRange (asWord w)
+    go : {x y : Out Flaw Val} (m : Out Flaw Bool) → (x ≡ value w → InRange (asWord w)) → (y ≡ value w → InRange (asWord w)) → also m (λ t. cond t x y) ≡ value w → InRange (asWord w)
     go (value true) f g e = f e
     go (value false) f g e = g e
     go (fault k) f g e = cc
@@ -120,19 +121,19 @@ module _ (r : Rule) (q : ℕ) (c : Constants r) where
   joined-ranged s h (finished how ls) k = record { vars-in = h .vars-in; labels-in = k .1 }
 
   advance-ranged : (s : State) → Ranged s → Ranged (advance r q s)
-  unfolding advance
+  unfolding advanceFrom
   advance-ranged s h = go (goesOn (s .finish))
     where
       go : (t : Bool) → Ranged (cond t (joined s (roundOf r q s)) s)
       go true =
           joined-ranged s h (roundOf r q s)
           (walk-kept q (λ x. Bounded (worked x)) AllInRange AllInRange
-          (λ i a env z o e p. in-set env i z (eval-in a env z o e p) e)
-          (λ a env ls z o e l p n. in-append ls (z ∷ []) l (in-one z (eval-in a env z o e p)))
-          r c (size r) (s .block) (s .vars) (s .labels) (h .vars-in) (h .labels-in))
+          (λ i a w env z o e p. in-set env i z (eval-in a w env z o e p) e)
+          (λ a w env ls z o e l p n. in-append ls (z ∷ []) l (in-one z (eval-in a w env z o e p)))
+          r c (size r) origin (s .block) (s .vars) (s .labels) (h .vars-in) (h .labels-in))
       go false = h
 
   pub after-ranged : (n : ℕ) (s : State) → Ranged s → Ranged (after r q n s)
-  unfolding after
+  unfolding afterFrom
   after-ranged zero s h = h
   after-ranged (suc n) s h = advance-ranged (after r q n s) (after-ranged n s h)

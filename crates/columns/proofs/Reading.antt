@@ -1,5 +1,5 @@
 -- What is read decides: two environments that agree on the variables that an expression, a condition or an ending reads give it one meaning. Assumes nothing.
-use Prim.Native.Nat.{ℕ}
+use Prim.Native.Nat.{ℕ, _+_}
 use mathlib.Core.Path.{_≡_, refl, ap}
 use mathlib.Core.Bool.{Bool, true, _||_}
 use mathlib.Core.List.{List}
@@ -7,7 +7,8 @@ use lib.ListN.{getD}
 use borrow.Author.Tests.{eq-eqb}
 use Rattle.definitions.specs.Values.{Val, unset, value}
 use Rattle.definitions.specs.Rule.{Expr, Cond, Const, Var, Neg, Op, Case, Compare, Not, Join, End, Goto, Jump, Stop, If}
-use Rattle.definitions.specs.Meaning.{eval, holds}
+use Rattle.definitions.specs.Spelling.{exprSize, condSize, endSize}
+use Rattle.definitions.specs.Meaning.{Where, further, eval, holds}
 use Rattle.definitions.specs.Direct.{exit}
 use Rattle.definitions.specs.Columns.{reads, looks, endLooks}
 use Rattle.definitions.proofs.Tests.{or-left, or-right}
@@ -26,25 +27,25 @@ module _ (A B : ℕ → Bool) (x y : List Val) (h : Agree (λ k. A k || B k) x y
 mutual
   unfolding reads eval
 
-  pub eval-alike : (e : Expr) (x y : List Val) → Agree (reads e) x y → eval e x ≡ eval e y
-  eval-alike (Const z) x y h = refl
-  eval-alike (Var j) x y h = ap value (h j (eq-eqb j j refl))
-  eval-alike (Neg a) x y h = rw (eval-alike a x y h)
-  eval-alike (Op o a b) x y h = rw (eval-alike a x y (agree-left (reads a) (reads b) x y h), eval-alike b x y (agree-right (reads a) (reads b) x y h))
-  eval-alike (Case c a b) x y h =
+  pub eval-alike : (e : Expr) (w : Where) (x y : List Val) → Agree (reads e) x y → eval e w x ≡ eval e w y
+  eval-alike (Const z) w x y h = refl
+  eval-alike (Var j) w x y h = ap value (h j (eq-eqb j j refl))
+  eval-alike (Neg a) w x y h = rw (eval-alike a (further w 1) x y h)
+  eval-alike (Op o a b) w x y h = rw (eval-alike a (further w 1) x y (agree-left (reads a) (reads b) x y h), eval-alike b (further w (1 + exprSize a)) x y (agree-right (reads a) (reads b) x y h))
+  eval-alike (Case c a b) w x y h =
       let arms = agree-right (looks c) (λ k. reads a k || reads b k) x y h in
-      rw (holds-alike c x y (agree-left (looks c) (λ k. reads a k || reads b k) x y h), eval-alike a x y (agree-left (reads a) (reads b) x y arms), eval-alike b x y (agree-right (reads a) (reads b) x y arms))
+      rw (holds-alike c (further w 1) x y (agree-left (looks c) (λ k. reads a k || reads b k) x y h), eval-alike a (further w (1 + condSize c)) x y (agree-left (reads a) (reads b) x y arms), eval-alike b (further w (1 + condSize c + exprSize a)) x y (agree-right (reads a) (reads b) x y arms))
 
-  pub holds-alike : (c : Cond) (x y : List Val) → Agree (looks c) x y → holds c x ≡ holds c y
-  holds-alike (Compare r a b) x y h = rw (eval-alike a x y (agree-left (reads a) (reads b) x y h), eval-alike b x y (agree-right (reads a) (reads b) x y h))
-  holds-alike (Not c) x y h = rw (holds-alike c x y h)
-  holds-alike (Join j c d) x y h = rw (holds-alike c x y (agree-left (looks c) (looks d) x y h), holds-alike d x y (agree-right (looks c) (looks d) x y h))
+  pub holds-alike : (c : Cond) (w : Where) (x y : List Val) → Agree (looks c) x y → holds c w x ≡ holds c w y
+  holds-alike (Compare r a b) w x y h = rw (eval-alike a (further w 1) x y (agree-left (reads a) (reads b) x y h), eval-alike b (further w (1 + exprSize a)) x y (agree-right (reads a) (reads b) x y h))
+  holds-alike (Not c) w x y h = rw (holds-alike c (further w 1) x y h)
+  holds-alike (Join j c d) w x y h = rw (holds-alike c (further w 1) x y (agree-left (looks c) (looks d) x y h), holds-alike d (further w (1 + condSize c)) x y (agree-right (looks c) (looks d) x y h))
 
-pub exit-alike : (e : End) (x y : List Val) → Agree (endLooks e) x y → exit e x ≡ exit e y
+pub exit-alike : (e : End) (w : Where) (x y : List Val) → Agree (endLooks e) x y → exit e w x ≡ exit e w y
 unfolding endLooks exit
-exit-alike (Goto t) x y h = refl
-exit-alike (Jump t) x y h = refl
-exit-alike Stop x y h = refl
-exit-alike (If c d e) x y h =
+exit-alike (Goto t) w x y h = refl
+exit-alike (Jump t) w x y h = refl
+exit-alike Stop w x y h = refl
+exit-alike (If c d e) w x y h =
     let arms = agree-right (looks c) (λ k. endLooks d k || endLooks e k) x y h in
-    rw (holds-alike c x y (agree-left (looks c) (λ k. endLooks d k || endLooks e k) x y h), exit-alike d x y (agree-left (endLooks d) (endLooks e) x y arms), exit-alike e x y (agree-right (endLooks d) (endLooks e) x y arms))
+    rw (holds-alike c (further w 1) x y (agree-left (looks c) (λ k. endLooks d k || endLooks e k) x y h), exit-alike d (further w (1 + condSize c)) x y (agree-left (endLooks d) (endLooks e) x y arms), exit-alike e (further w (1 + condSize c + endSize d)) x y (agree-right (endLooks d) (endLooks e) x y arms))

@@ -9,7 +9,7 @@ use lib.ListN.{length, replicate, length-append, length-replicate, length-set}
 use borrow.Author.Tests.{eqb-true, eqb-false}
 use Rattle.definitions.specs.Values.{Val, unset}
 use Rattle.definitions.specs.Rule.{Rule, size}
-use Rattle.definitions.specs.Direct.{State, goesOn, Round, jumped, finished, walk, start, joined, advance, after}
+use Rattle.definitions.specs.Direct.{State, goesOn, Round, jumped, finished, origin, walk, start, joined, advanceFrom, advance, afterFrom, after}
 use Rattle.definitions.specs.Columns.{flowOf}
 use Rattle.definitions.proofs.Columns.{entry-in-J}
 use Rattle.columns.specs.OnPlan.{narrowed, lineRound}
@@ -20,7 +20,7 @@ use Rattle.columns.proofs.Keeping.{KeptRound, walk-kept}
 
 -- the round that a row asks for
 abbrev pub roundOf : Rule → ℕ → State → Round
-roundOf r q s = walk (size r) r q (s .block) (s .vars) (s .labels)
+roundOf r q s = walk (size r) origin r q (s .block) (s .vars) (s .labels)
 
 -- labels only grow, and no further than the quota
 pub record Grown (q : ℕ) (old new : List Val) : Type 0 where
@@ -52,19 +52,19 @@ seen-joined r s (finished how ls) = refl
 -- ---- one round
 module _ (r : Rule) (q : ℕ) where
   pub advance-done : (s : State) → goesOn (s .finish) ≡ false → advance r q s ≡ s
-  unfolding advance
+  unfolding advanceFrom
   advance-done s e = rw e
 
   pub advance-on : (s : State) → goesOn (s .finish) ≡ true → advance r q s ≡ joined s (roundOf r q s)
-  unfolding advance
+  unfolding advanceFrom
   advance-on s e = rw e
 
-  walk-keeps : (f b : ℕ) (env ls : List Val) → length ls ≤ q → KeptRound (λ x. length x ≡ length env) (Grown q ls) (walk f r q b env ls)
+  walk-keeps : (f b : ℕ) (env ls : List Val) → length ls ≤ q → KeptRound (λ x. length x ≡ length env) (Grown q ls) (walk f origin r q b env ls)
   walk-keeps f b env ls h =
       walk-kept q (λ s. Unit {0}) (λ x. length x ≡ length env) (Grown q ls)
-      (λ i a x z o e p. length-set x i z ∙ e)
-      (λ a x ms z o e g p l. grown-more q ls ms z l g)
-      r (λ b s m. tt) f b env ls refl (grown-self q ls h)
+      (λ i a w x z o e p. length-set x i z ∙ e)
+      (λ a w x ms z o e g p l. grown-more q ls ms z l g)
+      r (λ b s m. tt) f origin b env ls refl (grown-self q ls h)
 
   module _ (ok : Proper r) (n : ℕ) (s : State) (h : Sound r q n s) where
     joined-sound : goesOn (s .finish) ≡ true → Sound r q (suc n) (joined s (roundOf r q s))
@@ -111,7 +111,7 @@ module _ (r : Rule) (q : ℕ) where
         }
 
     advance-grown : Grown q (s .labels) (advance r q s .labels)
-    unfolding advance
+    unfolding advanceFrom
     advance-grown = go (goesOn (s .finish))
       where
         ended : (R : Round) → KeptRound (λ x. length x ≡ length (s .vars)) (Grown q (s .labels)) R → Grown q (s .labels) (joined s R .labels)
@@ -123,7 +123,7 @@ module _ (r : Rule) (q : ℕ) where
         go false = grown-self q (s .labels) (h .labels-few)
 
     pub seen-advance : seen r (advance r q s) ≡ advanceOn r q (seen r s)
-    unfolding advance advanceOn
+    unfolding advanceFrom advanceOn
     seen-advance = go (goesOn (s .finish))
       where
         go : (t : Bool) → seen r (cond t (joined s (roundOf r q s)) s) ≡ cond t (joinedOn (seen r s) (lineRound r q (s .block) (seen r s .cols) (s .labels))) (seen r s)
@@ -144,12 +144,12 @@ module _ (r : Rule) (q : ℕ) where
 
   -- ---- round after round
   pub after-add : (n m : ℕ) (s : State) → after r q (n + m) s ≡ after r q m (after r q n s)
-  unfolding after
+  unfolding afterFrom
   after-add n zero s = rw add-zero
   after-add n (suc m) s = rw (add-suc, after-add n m s)
 
   pub after-done : (n : ℕ) (s : State) → goesOn (s .finish) ≡ false → after r q n s ≡ s
-  unfolding after
+  unfolding afterFrom
   after-done zero s e = refl
   after-done (suc n) s e = rw (after-done n s e) (advance-done s e)
 
@@ -168,17 +168,17 @@ module _ (r : Rule) (q : ℕ) where
 
     module _ (m : ℕ) (s : State) (h : Sound r q m s) where
       pub after-sound : (n : ℕ) → Sound r q (m + n) (after r q n s)
-      unfolding after
+      unfolding afterFrom
       after-sound zero = rw add-zero h
       after-sound (suc n) = rw add-suc (advance-sound ok (m + n) (after r q n s) (after-sound n))
 
       pub after-grown : (n : ℕ) → Grown q (s .labels) (after r q n s .labels)
-      unfolding after
+      unfolding afterFrom
       after-grown zero = grown-self q (s .labels) (h .labels-few)
       after-grown (suc n) = grown-trans q _ _ _ (after-grown n) (advance-grown ok (m + n) (after r q n s) (after-sound n))
 
       pub seen-after : (n : ℕ) → seen r (after r q n s) ≡ afterOn r q n (seen r s)
-      unfolding after afterOn
+      unfolding afterFrom afterOn
       seen-after zero = refl
       seen-after (suc n) = seen-advance ok (m + n) (after r q n s) (after-sound n) ∙ ap (advanceOn r q) (seen-after n)
 

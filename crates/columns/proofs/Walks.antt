@@ -10,7 +10,8 @@ use Rattle.definitions.specs.Values.{Val, Out, value, fault}
 use Rattle.definitions.specs.declared.Flaw.{Flaw}
 use Rattle.definitions.specs.declared.Finish.{Finish}
 use Rattle.definitions.specs.Rule.{End, Rule, size, blockOf}
-use Rattle.definitions.specs.Direct.{Exit, toBlock, toRound, toStop, exit, Way, on, ended, Round, jumped, finished, leave, through, steps, walk, stopped, faulted}
+use Rattle.definitions.specs.Direct.{Exit, toBlock, toRound, toStop, exit, Way, on, ended, Round, jumped, finished, leave, through, steps, bodyAt, endingAt, origin, walk, stopped, faulted}
+use Rattle.definitions.specs.Meaning.{Where}
 use Rattle.definitions.specs.Columns.{ledTo, flowOf, inputsOf, outputsOf, names, J, outputs, LC, sets, goesTo, jumpsTo}
 use Rattle.definitions.specs.Batch.{columnsOf}
 use Rattle.definitions.proofs.Tests.{or-left, or-right, and-both, some-in}
@@ -72,17 +73,17 @@ module _ (r : Rule) (ok : Proper r) where
     -- ---- the block
     block-alike : (q : ℕ) (x y ls : List Val) → Alike (r .variables) (inputsOf (flowOf r) b) x y → (W U : ℕ → List Val → List Val → Round)
         → ((t : ℕ) (x y ls : List Val) → t < size r → ledTo r t ≡ true → ok .rank t < ok .rank b → Alike (r .variables) (inputsOf (flowOf r) t) x y → Rounds r (W t x ls) (U t y ls))
-        → Rounds r (through (steps q (blockOf r b .body) x ls) (blockOf r b .ending) W) (leaving r b (steps q (blockOf r b .body) (entered r b y) ls) (blockOf r b .ending) U)
-    block-alike q x y ls w W U h = go _ _ (steps-alike (r .variables) (blockOf r b .ending) q (blockOf r b .body) _ x (entered r b y) ls covered (alike-kept _ (r .variables) x y w))
+        → Rounds r (through (steps q (blockOf r b .body) (bodyAt origin r b) x ls) (blockOf r b .ending) (endingAt origin r b) W) (leaving r b (steps q (blockOf r b .body) (bodyAt origin r b) (entered r b y) ls) (blockOf r b .ending) U)
+    block-alike q x y ls w W U h = go _ _ (steps-alike (r .variables) (blockOf r b .ending) q (blockOf r b .body) (bodyAt origin r b) _ x (entered r b y) ls covered (alike-kept _ (r .variables) x y w))
       where
-        go : (c d : Way) → Ways (r .variables) (λ k. inputsOf (flowOf r) b k || sets (blockOf r b .body) k) c d → Rounds r (through c (blockOf r b .ending) W) (leaving r b d (blockOf r b .ending) U)
+        go : (c d : Way) → Ways (r .variables) (λ k. inputsOf (flowOf r) b k || sets (blockOf r b .body) k) c d → Rounds r (through c (blockOf r b .ending) (endingAt origin r b) W) (leaving r b d (blockOf r b .ending) U)
         go c d (both-on x y ls p q w) =
-            rw (p, q, exit-alike (blockOf r b .ending) x y (looks-agree (r .variables) _ (blockOf r b .body) _ x y covered w))
-            (leave-alike (exit (blockOf r b .ending) y) (exit-named (blockOf r b .ending) y) x (handed r b y) ls (alike-kept _ (r .variables) x y (alike-less _ _ _ x y handed-on w)) _ _ (λ t m e n. h t x (handed r b y) ls m e n))
+            rw (p, q, exit-alike (blockOf r b .ending) (endingAt origin r b) x y (looks-agree (r .variables) _ (blockOf r b .body) _ x y covered w))
+            (leave-alike (exit (blockOf r b .ending) (endingAt origin r b) y) (exit-named (blockOf r b .ending) (endingAt origin r b) y) x (handed r b y) ls (alike-kept _ (r .variables) x y (alike-less _ _ _ x y handed-on w)) _ _ (λ t m e n. h t x (handed r b y) ls m e n))
         go c d (both-ended how ls p q) = both-finished how ls (rw p) (rw q)
 
   -- ---- the round: from block b on, more blocks than its rank are enough
-  pub walk-alike : (f q b : ℕ) (x y ls : List Val) → b < size r → ledTo r b ≡ true → ok .rank b < f → Alike (r .variables) (inputsOf (flowOf r) b) x y → Rounds r (walk f r q b x ls) (planWalk f r q b y ls)
+  pub walk-alike : (f q b : ℕ) (x y ls : List Val) → b < size r → ledTo r b ≡ true → ok .rank b < f → Alike (r .variables) (inputsOf (flowOf r) b) x y → Rounds r (walk f origin r q b x ls) (planWalk f r q b y ls)
   unfolding walk planWalk
   walk-alike zero q b x y ls l e s w = absurd (omega arith)
   walk-alike (suc f) q b x y ls l e s w = block-alike b l e q x y ls w _ _ (λ t x y ls m e n u. walk-alike f q t x y ls m e (omega arith) u)
@@ -95,24 +96,24 @@ module _ (r : Rule) (ok : Proper r) where
   leave-same (value toStop) env ls W U h = refl
   leave-same (fault k) env ls W U h = refl
 
-  pub through-same : (e : End) (W U : ℕ → List Val → List Val → Round) → ((t : ℕ) (env ls : List Val) → goesTo e t ≡ true → W t env ls ≡ U t env ls) → (w : Way) → through w e W ≡ through w e U
-  through-same e W U h (on env ls) = leave-same _ env ls _ _ (λ t p. h t env ls (exit-named e env .goes t p))
-  through-same e W U h (ended how ls) = refl
+  pub through-same : (e : End) (p : Where) (W U : ℕ → List Val → List Val → Round) → ((t : ℕ) (env ls : List Val) → goesTo e t ≡ true → W t env ls ≡ U t env ls) → (w : Way) → through w e p W ≡ through w e p U
+  through-same e p W U h (on env ls) = leave-same _ env ls _ _ (λ t g. h t env ls (exit-named e p env .goes t g))
+  through-same e p W U h (ended how ls) = refl
 
-  pub walk-enough : (f g q b : ℕ) (env ls : List Val) → b < size r → ok .rank b < f → ok .rank b < g → walk f r q b env ls ≡ walk g r q b env ls
+  pub walk-enough : (f g : ℕ) (w : Where) (q b : ℕ) (env ls : List Val) → b < size r → ok .rank b < f → ok .rank b < g → walk f w r q b env ls ≡ walk g w r q b env ls
   unfolding walk
-  walk-enough zero g q b env ls l m n = absurd (omega arith)
-  walk-enough (suc f) zero q b env ls l m n = absurd (omega arith)
-  walk-enough (suc f) (suc g) q b env ls l m n =
-      through-same (blockOf r b .ending) _ _
-      (λ t env ls p. let j = ok .ranked .falls b t l p in walk-enough f g q t env ls (ok .goto-below b t l p) (omega (arith, j)) (omega (arith, j)))
-      (steps q (blockOf r b .body) env ls)
+  walk-enough zero g w q b env ls l m n = absurd (omega arith)
+  walk-enough (suc f) zero w q b env ls l m n = absurd (omega arith)
+  walk-enough (suc f) (suc g) w q b env ls l m n =
+      through-same (blockOf r b .ending) (endingAt w r b) _ _
+      (λ t env ls p. let j = ok .ranked .falls b t l p in walk-enough f g w q t env ls (ok .goto-below b t l p) (omega (arith, j)) (omega (arith, j)))
+      (steps q (blockOf r b .body) (bodyAt w r b) env ls)
 
   -- a round that goes on, goes on at a block of J
-  pub jumps-into-J : (q b : ℕ) (vars ls : List Val) → length vars ≡ r .variables → b < size r → J (flowOf r) b ≡ true → (t : ℕ) (x ms : List Val) → walk (size r) r q b vars ls ≡ jumped t x ms → (t < size r) × (J (flowOf r) t ≡ true)
+  pub jumps-into-J : (q b : ℕ) (vars ls : List Val) → length vars ≡ r .variables → b < size r → J (flowOf r) b ≡ true → (t : ℕ) (x ms : List Val) → walk (size r) origin r q b vars ls ≡ jumped t x ms → (t < size r) × (J (flowOf r) t ≡ true)
   jumps-into-J q b vars ls e l i t x ms h = go _ (walk-alike (size r) q b vars vars ls l (J-led r b l i) (ok .ranked .below b l) (alike-self _ _ vars (omega arith)))
     where
-      go : (d : Round) → Rounds r (walk (size r) r q b vars ls) d → (t < size r) × (J (flowOf r) t ≡ true)
+      go : (d : Round) → Rounds r (walk (size r) origin r q b vars ls) d → (t < size r) × (J (flowOf r) t ≡ true)
       go d (both-jumped u x y ls p q m j w) =
           let same : u ≡ t = cc in
           (rw same at m, rw same at j)
@@ -122,7 +123,7 @@ module _ (r : Rule) (ok : Proper r) where
 
   -- one round of a line is the direct run's round, narrowed to the LC columns
   pub on-plan : (q b : ℕ) (vars ls : List Val) → length vars ≡ r .variables → b < size r → J (flowOf r) b ≡ true
-      → lineRound r q b (columnsOf (r .variables) (LC (flowOf r)) vars) ls ≡ narrowed r (walk (size r) r q b vars ls)
+      → lineRound r q b (columnsOf (r .variables) (LC (flowOf r)) vars) ls ≡ narrowed r (walk (size r) origin r q b vars ls)
   unfolding lineRound
   on-plan q b vars ls e l j =
       go _ _

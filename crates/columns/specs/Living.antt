@@ -1,4 +1,4 @@
--- 02, K3: rules that differ in dead blocks alone. That they have the same columns, and that their runs are the same, are the theorems of proofs/Living.antt.
+-- 02, K3: rules that differ in dead blocks alone. That they have the same columns, and that their runs are the same but for the places of faults, are the theorems of proofs/Living.antt.
 use Prim.Native.Nat.{ℕ, _<_}
 use mathlib.Core.Path.{_≡_}
 use Rattle.definitions.specs.Rule.{Rule, size, blockOf}

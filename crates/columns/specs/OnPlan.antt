@@ -6,7 +6,7 @@ use mathlib.Core.List.{List}
 use lib.ListN.{getD, set, replicate}
 use Rattle.definitions.specs.Values.{Val, unset}
 use Rattle.definitions.specs.Rule.{End, Rule, size, blockOf}
-use Rattle.definitions.specs.Direct.{Way, on, ended, steps, exit, Round, jumped, finished, leave}
+use Rattle.definitions.specs.Direct.{Way, on, ended, steps, exit, Round, jumped, finished, leave, bodyAt, endingAt, origin}
 use Rattle.definitions.specs.Columns.{flowOf, inputsOf, outputsOf, LC}
 use Rattle.definitions.specs.Batch.{columnsOf, countTo}
 
@@ -24,13 +24,13 @@ handed r b env = kept (r .variables) (outputsOf (flowOf r) b) env
 
 -- a block's ending sees all that the block has; what it leads to gets what the block hands on
 abbrev pub leaving : Rule → ℕ → Way → End → (ℕ → List Val → List Val → Round) → Round
-leaving r b (on env ls) e W = leave (exit e env) (handed r b env) ls (λ t. W t (handed r b env) ls)
+leaving r b (on env ls) e W = leave (exit e (endingAt origin r b) env) (handed r b env) ls (λ t. W t (handed r b env) ls)
 leaving r b (ended how ls) e W = finished how ls
 
 -- from block b on, as `walk` of the direct run
 unfoldable pub planWalk : ℕ → Rule → ℕ → ℕ → List Val → List Val → Round
 planWalk zero r q b env ls = jumped b env ls
-planWalk (suc f) r q b env ls = leaving r b (steps q (blockOf r b .body) (entered r b env) ls) (blockOf r b .ending) (λ t env ls. planWalk f r q t env ls)
+planWalk (suc f) r q b env ls = leaving r b (steps q (blockOf r b .body) (bodyAt origin r b) (entered r b env) ls) (blockOf r b .ending) (λ t env ls. planWalk f r q t env ls)
 
 -- a line's columns as 16 variables, those that are no columns unset
 unfoldable pub spread : ℕ → (ℕ → Bool) → List Val → List Val

@@ -7,3 +7,5 @@ pub mod Led
 pub mod Agreeing
 pub mod Masks
 pub mod Values
+pub mod Unplaced
+pub mod Faults

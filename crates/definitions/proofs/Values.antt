@@ -3,7 +3,7 @@ use Prim.Native.Nat.{ℕ, zero, suc}
 use mathlib.Core.Path.{_≡_, refl, sym, ap, _∙_}
 use mathlib.Core.List.{List, [], _∷_, _++_}
 use lib.IntN.{pos}
-use lib.ListN.{length, getD, set, take}
+use lib.ListN.{length, getD, set}
 use Rattle.definitions.specs.Values.{Word, Val, number, asWord, valuesIn, wordsOf, unset}
 
 pub values-length : (ws : List Word) → length (valuesIn ws) ≡ length ws
@@ -28,11 +28,6 @@ values-set (w ∷ ws) (suc k) z = ap (λ (l : List Val). number w ∷ l) (values
 pub values-append : (ws us : List Word) → valuesIn (ws ++ us) ≡ valuesIn ws ++ valuesIn us
 values-append [] us = refl
 values-append (w ∷ ws) us = ap (λ (l : List Val). number w ∷ l) (values-append ws us)
-
-pub values-take : (n : ℕ) (ws : List Word) → valuesIn (take n ws) ≡ take n (valuesIn ws)
-values-take zero ws = refl
-values-take (suc n) [] = refl
-values-take (suc n) (w ∷ ws) = ap (λ (l : List Val). number w ∷ l) (values-take n ws)
 
 -- the words of values that come from words are these
 pub words-again : (ws : List Word) → wordsOf (valuesIn ws) ≡ ws

@@ -7,6 +7,7 @@ use lib.ListN.{length, take, drop, getD, replicate}
 use Rattle.definitions.specs.Values.{Word, Val, valuesIn, wordsOf, unset}
 use Rattle.definitions.specs.Rule.{Rule}
 use Rattle.definitions.specs.Direct.{State, goesOn, start, after}
+use Rattle.definitions.specs.declared.Finish.{Finish}
 
 -- ---- the rows
 
@@ -25,11 +26,14 @@ statesOf r values rows N q = map (after r q N) (startsOf r values rows)
 -- ---- the result buffer
 
 abbrev pub recordSize : ℕ → ℕ
-recordSize q = 3 + q
+recordSize q = 4 + q
 
--- three numbers, then as many labels as the third says, then zeros up to the quota
+-- the status, the rounds begun, how many labels, where the fault lies (02, K4), so many labels, and zeros up to the quota
+abbrev pub recordWords : ℕ → Finish → ℕ → ℕ → List Word → List Word
+recordWords q how begun count labels = pos (how .status) ∷ pos begun ∷ pos count ∷ pos (how .place) ∷ (labels ++ replicate (q - count) (pos 0))
+
 abbrev pub recordOf : ℕ → State → List Word
-recordOf q s = pos (s .finish .status) ∷ pos (s .begun) ∷ pos (length (s .labels)) ∷ (wordsOf (s .labels) ++ replicate (q - length (s .labels)) (pos 0))
+recordOf q s = recordWords q (s .finish) (s .begun) (length (s .labels)) (wordsOf (s .labels))
 
 unfoldable pub recordsOf : ℕ → List State → List Word
 recordsOf q [] = []

@@ -13,8 +13,9 @@ use Rattle.definitions.specs.Rule.{Add, Multiply, Divide, Remainder, Les
 use Rattle.definitions.specs.Rule.{Expr, Cond, Const, Var, Neg, Op, Case, Compare, Not, Join, Stmt, Set, Emit, End, Goto, Jump, Stop, If, Block, Rule}
 use Rattle.definitions.specs.Grammar.{Got, got, refused, then, twos, exprTag, opTag, badExpr, condTag, compareTag, notTag, joinTag, badCond, stmtTag, noStmt, endTag, badEnd}
 use Rattle.definitions.specs.Grammar.{targetsOf, exprAt, condAt, endAt, blockFrom, blocksTo, headed, ruleOf}
-use Rattle.definitions.specs.Meaning.{flaw, eval, holds}
-use Rattle.definitions.specs.Direct.{start, step, steps, exit, walk, advance, after}
+use Rattle.definitions.specs.Meaning.{atByte, eval, holds}
+use Rattle.definitions.specs.Direct.{start, step, steps, exit, walk, advanceFrom, afterFrom, after}
+use Rattle.definitions.specs.Spelling.{exprBytes, condBytes, stmtBytes, endBytes, inTurn, blockBytes}
 use Rattle.definitions.specs.Columns.{flowOver, flowOf, ledTo, J, some, reads, looks, endLooks, readFirst, sets, goesTo, jumpsTo, outputs, from, grown, growths, closure, inputsOf, outputsOf}
 use Rattle.definitions.specs.Plan.{maskOf, entryOf, entriesTo, planBy, planOf, same, planned, asPlan}
 use Rattle.definitions.specs.Pages.{lengthIn, wordSum, checkOf, pageBody, pageOf, pagesTo, fileOf, sizeOk, allZero, lengthOk, pageAt, payloadTo, unpacked}
@@ -105,7 +106,7 @@ found result work count q columns k = foundIn (buffer 1 result) (buffer 2 work) 
 
 -- three records without labels, of which the last two are of unfinished rows
 abbrev three : List Word
-three = words (1 ∷ 1 ∷ 0 ∷ 0 ∷ 1 ∷ 0 ∷ 0 ∷ 1 ∷ 0 ∷ [])
+three = words (1 ∷ 1 ∷ 0 ∷ 0 ∷ 0 ∷ 1 ∷ 0 ∷ 0 ∷ 0 ∷ 1 ∷ 0 ∷ 0 ∷ [])
 
 -- ---- the rule, byte by byte
 
@@ -153,25 +154,33 @@ ofMeaning =
     -- 15: a divisor of 0 is fault 2 in both
     ∷ ((quotient (minus 2147483648) (pos 0) ≡ fault ZeroDivisor) × (remainder (minus 2147483648) (pos 0) ≡ fault ZeroDivisor))
     -- 16: the operators that no example works out
-    ∷ ((eval (Neg (numeral 7)) [] ≡ value (number (minus 7))) × (eval (Op Multiply (numeral 7) (numeral 2)) [] ≡ value (number (pos 14))) × (eval (Op Divide (numeral 7) (numeral 2)) [] ≡ value (number (pos 3))) × (eval (Op Remainder (numeral 7) (numeral 2)) [] ≡ value (number (pos 1))))
+    ∷ ((eval (Neg (numeral 7)) (atByte 0) [] ≡ value (number (minus 7))) × (eval (Op Multiply (numeral 7) (numeral 2)) (atByte 0) [] ≡ value (number (pos 14))) × (eval (Op Divide (numeral 7) (numeral 2)) (atByte 0) [] ≡ value (number (pos 3))) × (eval (Op Remainder (numeral 7) (numeral 2)) (atByte 0) [] ≡ value (number (pos 1))))
     -- 17: left to right, and the first fault stands
-    ∷ ((eval (Op Add byZero tooHigh) [] ≡ fault (flaw ZeroDivisor)) × (eval (Op Add tooHigh byZero) [] ≡ fault (flaw OutOfRange)) × (holds (Compare Less byZero tooHigh) [] ≡ fault (flaw ZeroDivisor)) × (holds (Compare Less tooHigh byZero) [] ≡ fault (flaw OutOfRange)))
+    ∷ ((eval (Op Add byZero tooHigh) (atByte 0) [] ≡ fault (record { kind = ZeroDivisor; place = 1 })) × (eval (Op Add tooHigh byZero) (atByte 0) [] ≡ fault (record { kind = OutOfRange; place = 1 })) × (holds (Compare Less byZero tooHigh) (atByte 0) [] ≡ fault (record { kind = ZeroDivisor; place = 1 })) × (holds (Compare Less tooHigh byZero) (atByte 0) [] ≡ fault (record { kind = OutOfRange; place = 1 })))
+    -- 17, places: the innermost operator at fault, by its own tag: a right operand, a negation and what is negated, the arm that a case takes
+    ∷ ((eval (Op Add (numeral 1) byZero) (atByte 10) [] ≡ fault (record { kind = ZeroDivisor; place = 16 })) × (eval (Neg byZero) (atByte 10) [] ≡ fault (record { kind = ZeroDivisor; place = 11 })) × (eval (Neg (Const (minus 2147483648))) (atByte 10) [] ≡ fault (record { kind = OutOfRange; place = 10 }))
+    × (eval (Op Add (Const (pos 2147483647)) (numeral 1)) (atByte 10) [] ≡ fault (record { kind = OutOfRange; place = 10 }))
+    × ((eval (Case holding byZero (numeral 1)) (atByte 0) [] ≡ fault (record { kind = ZeroDivisor; place = 12 })) × (eval (Case failing (numeral 1) byZero) (atByte 0) [] ≡ fault (record { kind = ZeroDivisor; place = 17 }))))
     -- 18: and, or look right only where the left leaves it open
-    ∷ ((holds (Join And failing faulting) [] ≡ value false) × (holds (Join Or holding faulting) [] ≡ value true) × (holds (Join And holding faulting) [] ≡ fault (flaw ZeroDivisor)) × (holds (Join Or failing faulting) [] ≡ fault (flaw ZeroDivisor)))
+    ∷ ((holds (Join And failing faulting) (atByte 0) [] ≡ value false) × (holds (Join Or holding faulting) (atByte 0) [] ≡ value true) × (holds (Join And holding faulting) (atByte 0) [] ≡ fault (record { kind = ZeroDivisor; place = 13 })) × (holds (Join Or failing faulting) (atByte 0) [] ≡ fault (record { kind = ZeroDivisor; place = 13 })))
     -- 19: not, and equal of both signs
-    ∷ ((holds (Not holding) [] ≡ value false) × (holds (Compare Equal (Const (minus 1)) (Const (minus 1))) [] ≡ value true) × (holds (Compare Equal (numeral 1) (Const (minus 1))) [] ≡ value false))
+    ∷ ((holds (Not holding) (atByte 0) [] ≡ value false) × (holds (Compare Equal (Const (minus 1)) (Const (minus 1))) (atByte 0) [] ≡ value true) × (holds (Compare Equal (numeral 1) (Const (minus 1))) (atByte 0) [] ≡ value false))
     -- 20: status 0 unfinished, 1 stopped, 2 and 3 the faults, 4 quota
-    ∷ ((leaves 0 [] (Jump 0) ≡ words (0 ∷ 1 ∷ 0 ∷ [])) × (leaves 0 [] Stop ≡ words (1 ∷ 1 ∷ 0 ∷ [])) × (leaves 0 (Emit byZero ∷ []) Stop ≡ words (2 ∷ 1 ∷ 0 ∷ [])) × (leaves 0 (Emit tooHigh ∷ []) Stop ≡ words (3 ∷ 1 ∷ 0 ∷ [])) × (leaves 0 (Emit (numeral 7) ∷ []) Stop ≡ words (4 ∷ 1 ∷ 0 ∷ [])))
+    ∷ ((leaves 0 [] (Jump 0) ≡ words (0 ∷ 1 ∷ 0 ∷ 0 ∷ [])) × (leaves 0 [] Stop ≡ words (1 ∷ 1 ∷ 0 ∷ 0 ∷ [])) × (leaves 0 (Emit byZero ∷ []) Stop ≡ words (2 ∷ 1 ∷ 0 ∷ 5 ∷ [])) × (leaves 0 (Emit tooHigh ∷ []) Stop ≡ words (3 ∷ 1 ∷ 0 ∷ 5 ∷ [])) × (leaves 0 (Emit (numeral 7) ∷ []) Stop ≡ words (4 ∷ 1 ∷ 0 ∷ 0 ∷ [])))
     -- 21: labels emitted before a fault stay, in a statement and in an if
-    ∷ ((leaves 2 (Emit (numeral 7) ∷ Set 0 byZero ∷ []) Stop ≡ words (2 ∷ 1 ∷ 1 ∷ 7 ∷ 0 ∷ [])) × (leaves 2 (Emit (numeral 7) ∷ []) (If faulting Stop Stop) ≡ words (2 ∷ 1 ∷ 1 ∷ 7 ∷ 0 ∷ [])))
+    ∷ ((leaves 2 (Emit (numeral 7) ∷ Set 0 byZero ∷ []) Stop ≡ words (2 ∷ 1 ∷ 1 ∷ 12 ∷ 7 ∷ 0 ∷ [])) × (leaves 2 (Emit (numeral 7) ∷ []) (If faulting Stop Stop) ≡ words (2 ∷ 1 ∷ 1 ∷ 12 ∷ 7 ∷ 0 ∷ [])))
+    -- 21, places: 1 + -(1 rem 0), where only the remainder faults; a fault in block 1, and in the second arm of an if inside an if
+    ∷ ((leaves 0 (Emit (Op Add (numeral 1) (Neg (Op Remainder (numeral 1) (numeral 0)))) ∷ []) Stop ≡ words (2 ∷ 1 ∷ 0 ∷ 12 ∷ []))
+    × (recordOf 0 (after (rule (block [] (Goto 1) ∷ block (Emit byZero ∷ []) Stop ∷ [])) 0 1 (start (rule (block [] (Goto 1) ∷ block (Emit byZero ∷ []) Stop ∷ [])) [])) ≡ words (2 ∷ 1 ∷ 0 ∷ 7 ∷ []))
+    × (leaves 0 [] (If failing Stop (If faulting Stop Stop)) ≡ words (2 ∷ 1 ∷ 0 ∷ 19 ∷ [])))
     -- 22: the label that the quota leaves no room for ends the row, and is not kept
-    ∷ (leaves 1 (Emit (numeral 7) ∷ Emit (numeral 8) ∷ []) Stop ≡ words (4 ∷ 1 ∷ 1 ∷ 7 ∷ []))
+    ∷ (leaves 1 (Emit (numeral 7) ∷ Emit (numeral 8) ∷ []) Stop ≡ words (4 ∷ 1 ∷ 1 ∷ 0 ∷ 7 ∷ []))
     ∷ []
 
 pub meaning-hold : All ofMeaning
-unfolding ofMeaning settled quotient remainder eval holds step steps exit walk advance after
+unfolding ofMeaning settled quotient remainder eval holds step steps exit walk advanceFrom afterFrom exprBytes condBytes stmtBytes endBytes inTurn blockBytes
 meaning-hold =
-    ((refl, refl, refl, refl), ((refl, refl, refl), ((refl, refl), ((refl, refl, refl, refl), ((refl, refl, refl, refl), ((refl, refl, refl, refl), ((refl, refl, refl), ((refl, refl, refl, refl, refl), ((refl, refl), (refl, tt))))))))))
+    ((refl, refl, refl, refl), ((refl, refl, refl), ((refl, refl), ((refl, refl, refl, refl), ((refl, refl, refl, refl), ((refl, refl, refl, refl, (refl, refl)), ((refl, refl, refl, refl), ((refl, refl, refl), ((refl, refl, refl, refl, refl), ((refl, refl), ((refl, refl, refl), (refl, tt))))))))))))
 
 -- ---- columns and the plan
 
@@ -244,18 +253,18 @@ files-hold =
 pub ofBatch : List (Type 0)
 ofBatch =
     -- 32: a row that has ended begins no further round
-    (ran (row 9 4) ≡ (Done 3, (words (1 ∷ 3 ∷ 2 ∷ 2 ∷ 3 ∷ 0 ∷ 0 ∷ []), words (0 ∷ 0 ∷ 0 ∷ 0 ∷ []))))
+    (ran (row 9 4) ≡ (Done 3, (words (1 ∷ 3 ∷ 2 ∷ 0 ∷ 2 ∷ 3 ∷ 0 ∷ 0 ∷ []), words (0 ∷ 0 ∷ 0 ∷ 0 ∷ []))))
     -- 33: rows 2, 0, -5, as the program has them: each row has its own labels, and the most rounds are no sum
-    ∷ (ran (rows (pos 2 ∷ pos 0 ∷ minus 5 ∷ [])) ≡ (Done 2, (words (0 ∷ 2 ∷ 1 ∷ 2 ∷ 0 ∷ 0 ∷ 0 ∷ 1 ∷ 1 ∷ 2 ∷ 0 ∷ 0 ∷ 0 ∷ 0 ∷ []) ++ (pos 1 ∷ pos 1 ∷ pos 2 ∷ minus 5 ∷ words (0 ∷ 0 ∷ 0 ∷ [])), words (0 ∷ 1 ∷ 0 ∷ 3 ∷ replicate 8 0))))
+    ∷ (ran (rows (pos 2 ∷ pos 0 ∷ minus 5 ∷ [])) ≡ (Done 2, (words (0 ∷ 2 ∷ 1 ∷ 0 ∷ 2 ∷ 0 ∷ 0 ∷ 0 ∷ 1 ∷ 1 ∷ 2 ∷ 0 ∷ 0 ∷ 0 ∷ 0 ∷ 0 ∷ []) ++ (pos 1 ∷ pos 1 ∷ pos 2 ∷ pos 0 ∷ minus 5 ∷ words (0 ∷ 0 ∷ 0 ∷ [])), words (0 ∷ 1 ∷ 0 ∷ 3 ∷ replicate 8 0))))
     -- 34: a line has its row's number; no rows began no rounds
     ∷ ((tableIn (rows (pos 0 ∷ pos 2 ∷ [])) (planned planR) ≡ words (1 ∷ 1 ∷ 0 ∷ 3 ∷ replicate 4 0)) × (ran (rows []) ≡ (Done 0, ([], []))))
     -- 35: a row's fault leaves the row after it alone
-    ∷ (recordsOf 1 (statesOf divides (pos 0 ∷ pos 3 ∷ []) 2 1 1) ≡ words (2 ∷ 1 ∷ 0 ∷ 0 ∷ 1 ∷ 1 ∷ 1 ∷ 2 ∷ []))
+    ∷ (recordsOf 1 (statesOf divides (pos 0 ∷ pos 3 ∷ []) 2 1 1) ≡ words (2 ∷ 1 ∷ 0 ∷ 5 ∷ 0 ∷ 1 ∷ 1 ∷ 1 ∷ 0 ∷ 2 ∷ []))
     ∷ []
 
 pub batch-hold : All ofBatch
 unfolding ofBatch twos exprAt condAt endAt blockFrom blocksTo headed ruleOf
-    settled quotient eval holds step steps exit walk advance after
+    settled quotient eval holds step steps exit walk advanceFrom afterFrom exprBytes condBytes stmtBytes endBytes inTurn blockBytes
     some reads looks endLooks readFirst sets goesTo jumpsTo outputs from grown growths closure ledTo inputsOf maskOf entryOf entriesTo planBy same planned
     startsOf recordsOf countTo columnsOf linesFrom liveOf mostOf ranReply runReply recordsIn tableIn
 batch-hold =
@@ -266,11 +275,11 @@ batch-hold =
 pub ofFinder : List (Type 0)
 ofFinder =
     -- 36: a record; of two lines the first; where a line lies
-    ((found three (words (1 ∷ 5 ∷ 1 ∷ 6 ∷ [])) 3 0 0 0 ≡ words (1 ∷ 1 ∷ 0 ∷ [])) × (found three (words (1 ∷ 5 ∷ 1 ∷ 6 ∷ [])) 3 0 0 1 ≡ words (1 ∷ 5 ∷ [])) × (foundIn (buffer 1 three) (buffer 2 (words (1 ∷ 5 ∷ 2 ∷ 6 ∷ []))) 3 0 0 2 ≡ ((2, 8), words (2 ∷ 6 ∷ []))))
+    ((found three (words (1 ∷ 5 ∷ 1 ∷ 6 ∷ [])) 3 0 0 0 ≡ words (1 ∷ 1 ∷ 0 ∷ 0 ∷ [])) × (found three (words (1 ∷ 5 ∷ 1 ∷ 6 ∷ [])) 3 0 0 1 ≡ words (1 ∷ 5 ∷ [])) × (foundIn (buffer 1 three) (buffer 2 (words (1 ∷ 5 ∷ 2 ∷ 6 ∷ []))) 3 0 0 2 ≡ ((2, 8), words (2 ∷ 6 ∷ []))))
     -- 37: the empty part: no such row, no line, no whole line, too short a result
     ∷ ((found three [] 0 0 0 0 ≡ []) × (found three (words (1 ∷ 5 ∷ [])) 3 0 0 2 ≡ []) × (found three (words (2 ∷ [])) 3 0 0 2 ≡ []) × (found three [] 3 1 0 0 ≡ []))
     -- 38: 256 rows, quota 16 and 16 columns, and one more of each
-    ∷ ((found (replicate 771 (pos 1)) [] 256 0 0 0 ≡ words (1 ∷ 1 ∷ 1 ∷ [])) × (found (replicate 771 (pos 1)) [] 257 0 0 0 ≡ []) × (found (replicate 20 (pos 1)) [] 1 16 0 0 ≡ replicate 19 (pos 1)) × (found (replicate 20 (pos 1)) [] 1 17 0 0 ≡ []) × (found (words (0 ∷ 0 ∷ 0 ∷ [])) (replicate 19 (pos 0)) 1 0 16 0 ≡ replicate 18 (pos 0)) × (found (words (0 ∷ 0 ∷ 0 ∷ [])) (replicate 19 (pos 0)) 1 0 17 0 ≡ []))
+    ∷ ((found (replicate 1028 (pos 1)) [] 256 0 0 0 ≡ words (1 ∷ 1 ∷ 1 ∷ 1 ∷ [])) × (found (replicate 1028 (pos 1)) [] 257 0 0 0 ≡ []) × (found (replicate 21 (pos 1)) [] 1 16 0 0 ≡ replicate 20 (pos 1)) × (found (replicate 21 (pos 1)) [] 1 17 0 0 ≡ []) × (found (words (0 ∷ 0 ∷ 0 ∷ 0 ∷ [])) (replicate 19 (pos 0)) 1 0 16 0 ≡ replicate 18 (pos 0)) × (found (words (0 ∷ 0 ∷ 0 ∷ 0 ∷ [])) (replicate 19 (pos 0)) 1 0 17 0 ≡ []))
     ∷ []
 
 pub finder-hold : All ofFinder
@@ -289,14 +298,14 @@ ofReplies =
     -- 41: running: up to 256 rows, budget 65535 and quota 16, and as many values as the rows take
     ∷ ((asked 256 65535 16 0 0 ≡ refusal 12 0) × (asked 257 0 0 0 0 ≡ refusal 13 0) × (asked 1 65536 0 0 0 ≡ refusal 14 0) × (asked 1 0 17 0 0 ≡ refusal 14 0) × (runReply (record { plan = planR; rows = 2; values = pos 1 ∷ []; budget = 0; quota = 0 }) (planned planR) 100 100 ≡ refusal 13 0))
     -- 42: running: 15, 13, 14, 12 for the output, 12 for the working buffer
-    ∷ ((runReply (record { plan = []; rows = 257; values = []; budget = 65536; quota = 17 }) (planned []) 0 0 ≡ refusal 15 0) × (asked 257 65536 17 0 0 ≡ refusal 13 0) × (asked 256 65536 17 0 0 ≡ refusal 14 0) × (asked 1 1 0 0 0 ≡ refusal 12 0) × (asked 1 1 0 3 1 ≡ refusal 12 1) × (asked 1 1 0 3 2 ≡ Done 1))
+    ∷ ((runReply (record { plan = []; rows = 257; values = []; budget = 65536; quota = 17 }) (planned []) 0 0 ≡ refusal 15 0) × (asked 257 65536 17 0 0 ≡ refusal 13 0) × (asked 256 65536 17 0 0 ≡ refusal 14 0) × (asked 1 1 0 3 0 ≡ refusal 12 0) × (asked 1 1 0 4 1 ≡ refusal 12 1) × (asked 1 1 0 4 2 ≡ Done 1))
     -- 43: a refusal changes no buffer, and what lies beyond the written part stays
     ∷ ((left (refusal 12 0) (words (1 ∷ 2 ∷ [])) (words (7 ∷ 8 ∷ 9 ∷ [])) ≡ words (7 ∷ 8 ∷ 9 ∷ [])) × (left (Done 2) (words (1 ∷ 2 ∷ [])) (words (7 ∷ 8 ∷ 9 ∷ [])) ≡ words (1 ∷ 2 ∷ 9 ∷ [])))
     ∷ []
 
 pub replies-hold : All ofReplies
 unfolding ofReplies twos exprAt condAt endAt blockFrom blocksTo headed ruleOf
-    steps exit walk advance after some reads looks endLooks readFirst sets goesTo jumpsTo outputs from grown growths closure ledTo inputsOf maskOf entryOf entriesTo planBy same planned
+    steps exit walk advanceFrom afterFrom exprBytes condBytes stmtBytes endBytes inTurn blockBytes some reads looks endLooks readFirst sets goesTo jumpsTo outputs from grown growths closure ledTo inputsOf maskOf entryOf entriesTo planBy same planned
     lengthIn wordSum checkOf pageBody pageOf pagesTo fileOf allZero lengthOk pageAt payloadTo unpacked startsOf countTo mostOf toRead toWrite toCompile replyIn ranReply runReply
 replies-hold =
     ((refl, refl), ((refl, refl, refl, refl), ((refl, refl, refl, refl, refl), ((refl, refl, refl, refl, refl, refl), ((refl, refl), tt)))))

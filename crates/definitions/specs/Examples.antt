@@ -9,9 +9,9 @@ use lib.ListN.{length, take, drop}
 use Rattle.definitions.specs.Values.{Word, number, unset, Out, value, fault, kindNumber, settled, product, quotient, remainder}
 use Rattle.definitions.specs.Rule.{Add, Subtract, Less, Const, Var, Op, Compare, Set, Emit, Goto, Jump, Stop, If, Block, Rule}
 use Rattle.definitions.specs.Grammar.{Got, got, refused, then, twos, exprAt, endAt, blockFrom, blocksTo, headed, ruleOf}
-use Rattle.definitions.specs.Spelling.{constantBytes, exprBytes, stmtBytes, endBytes, inTurn, blockBytes, bytesOf}
-use Rattle.definitions.specs.Meaning.{eval}
-use Rattle.definitions.specs.Direct.{State, unfinished, step, steps, exit, walk, start, advance, after}
+use Rattle.definitions.specs.Spelling.{constantBytes, exprBytes, condBytes, stmtBytes, endBytes, inTurn, blockBytes, bytesOf}
+use Rattle.definitions.specs.Meaning.{atByte, eval}
+use Rattle.definitions.specs.Direct.{State, unfinished, step, steps, exit, walk, start, advanceFrom, afterFrom, after}
 use Rattle.definitions.specs.Columns.{some, reads, endLooks, readFirst, sets, goesTo, jumpsTo, outputs, from, grown, growths, closure, ledTo, inputsOf}
 use Rattle.definitions.specs.Plan.{maskOf, entryOf, entriesTo, planBy, planOf, same, planned}
 use Rattle.definitions.specs.Pages.{wordSum, checkOf, pageBody, pageOf, pagesTo, fileOf, allZero, lengthOk, pageAt, payloadTo, unpacked}
@@ -105,11 +105,11 @@ examples =
     -- E2: LC, inputs, outputs, J, bodies and size, all in the plan's bytes
     ∷ ((planFor R ≡ got planR 45) × (length planR ≡ 79))
     -- E3: argument 2, budget 2, quota 4
-    ∷ (ran (row 2 4) ≡ (Done 2, (words (0 ∷ 2 ∷ 1 ∷ 2 ∷ 0 ∷ 0 ∷ 0 ∷ []), words (0 ∷ 1 ∷ 0 ∷ 3 ∷ []))))
+    ∷ (ran (row 2 4) ≡ (Done 2, (words (0 ∷ 2 ∷ 1 ∷ 0 ∷ 2 ∷ 0 ∷ 0 ∷ 0 ∷ []), words (0 ∷ 1 ∷ 0 ∷ 3 ∷ []))))
     -- E4: the same with budget 3
-    ∷ (ran (row 3 4) ≡ (Done 3, (words (1 ∷ 3 ∷ 2 ∷ 2 ∷ 3 ∷ 0 ∷ 0 ∷ []), words (0 ∷ 0 ∷ 0 ∷ 0 ∷ []))))
+    ∷ (ran (row 3 4) ≡ (Done 3, (words (1 ∷ 3 ∷ 2 ∷ 0 ∷ 2 ∷ 3 ∷ 0 ∷ 0 ∷ []), words (0 ∷ 0 ∷ 0 ∷ 0 ∷ []))))
     -- E5: budget 0
-    ∷ (ran (row 0 4) ≡ (Done 0, (words (0 ∷ 0 ∷ 0 ∷ 0 ∷ 0 ∷ 0 ∷ 0 ∷ []), words (0 ∷ 0 ∷ 2 ∷ 0 ∷ []))))
+    ∷ (ran (row 0 4) ≡ (Done 0, (words (0 ∷ 0 ∷ 0 ∷ 0 ∷ 0 ∷ 0 ∷ 0 ∷ 0 ∷ []), words (0 ∷ 0 ∷ 2 ∷ 0 ∷ []))))
     -- E6: -7 by 2
     ∷ ((quotient (minus 7) (pos 2) ≡ value (minus 3)) × (remainder (minus 7) (pos 2) ≡ value (minus 1)))
     -- E7: the least value by -1
@@ -117,9 +117,9 @@ examples =
     -- E8: 46340 and 46341 squared
     ∷ ((product (pos 46340) (pos 46340) ≡ value (pos 2147395600)) × (product (pos 46341) (pos 46341) ≡ fault OutOfRange))
     -- E9: a guarded division by 0 does not fault
-    ∷ (then (exprAt 8 0 guarded 0) (λ e n. got (eval e []) n) ≡ got (value (number (pos 5))) 28)
+    ∷ (then (exprAt 8 0 guarded 0) (λ e n. got (eval e (atByte 0) []) n) ≡ got (value (number (pos 5))) 28)
     -- E10: with quota 0 the fault of an emit's expression comes first
-    ∷ (ran (record { plan = emitsFaultPlan; rows = 1; values = []; budget = 1; quota = 0 }) ≡ (Done 1, (words (2 ∷ 1 ∷ 0 ∷ []), words (0 ∷ 0 ∷ []))))
+    ∷ (ran (record { plan = emitsFaultPlan; rows = 1; values = []; budget = 1; quota = 0 }) ≡ (Done 1, (words (2 ∷ 1 ∷ 0 ∷ 5 ∷ []), words (0 ∷ 0 ∷ []))))
     -- E11: the smallest rule, and without its last byte
     ∷ ((length smallest ≡ 5) × (then (ruleOf smallest) (λ r n. got n n) ≡ got 5 5) × (toWrite (take 4 smallest) ≡ refused 9 4))
     -- E12: a goto to its own block; with a jump it is accepted, and unfinished under every budget
@@ -135,12 +135,12 @@ All (claim ∷ claims) = claim × All claims
 
 -- after n rounds the endless rule has begun n, and stands where it stood
 endless-after : (q n : ℕ) → after endless q n (start endless []) ≡ record { finish = unfinished; begun = n; labels = []; block = 0; vars = unset ∷ [] }
-unfolding after advance walk exit steps
+unfolding afterFrom advanceFrom walk exit steps
 endless-after q zero = refl
 endless-after q (suc n) = rw (endless-after q n) (ap (λ k. record { finish = unfinished; begun = k; labels = []; block = 0; vars = unset ∷ [] }) (add-one n))
 
 pub examples-hold : All examples
-unfolding examples settled quotient remainder twos exprAt endAt blockFrom blocksTo headed ruleOf eval step steps exit walk advance after
+unfolding examples settled quotient remainder twos exprAt endAt blockFrom blocksTo headed ruleOf eval step steps exit walk advanceFrom afterFrom exprBytes condBytes stmtBytes endBytes inTurn blockBytes
     some reads endLooks readFirst sets goesTo jumpsTo outputs from grown growths closure ledTo inputsOf maskOf entryOf entriesTo planBy same planned
     wordSum checkOf pageBody pageOf pagesTo fileOf startsOf recordsOf countTo columnsOf linesFrom liveOf mostOf
     toWrite ranReply runReply recordsIn tableIn

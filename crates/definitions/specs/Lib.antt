@@ -5,6 +5,7 @@ pub mod Spelling
 pub mod Limits
 pub mod Meaning
 pub mod Direct
+pub mod Faulting
 pub mod Columns
 pub mod Smallest
 pub mod Plan

@@ -2,6 +2,7 @@
 use Prim.Native.Nat.{ℕ, _+_, _-_, _/_, _%_}
 use mathlib.Core.List.{List, [], _∷_, _++_}
 use lib.IntN.{ℤ, pos, negsuc}
+use lib.ListN.{length, take}
 use Rattle.definitions.specs.Rule.{Operator, Add, Subtract, Multiply, Divide, Remainder, Relation, Less, Equal, Joint, And, Or}
 use Rattle.definitions.specs.Rule.{Expr, Cond, Const, Var, Neg, Op, Case, Compare, Not, Join, Stmt, Set, Emit, End, Goto, Jump, Stop, If, Block, Rule, size}
 
@@ -75,3 +76,23 @@ blockBytes b = inTurn stmtBytes (b .body) ++ endBytes (b .ending)
 -- the header (form, v, a, n), then the blocks
 unfoldable pub bytesOf : Rule → List ℕ
 bytesOf r = r .form ∷ r .variables ∷ r .arguments ∷ size r ∷ inTurn blockBytes (r .blocks)
+
+-- ---- sizes, and where a block stands: after the header and the blocks before it
+
+abbrev pub exprSize : Expr → ℕ
+exprSize e = length (exprBytes e)
+
+abbrev pub condSize : Cond → ℕ
+condSize c = length (condBytes c)
+
+abbrev pub stmtSize : Stmt → ℕ
+stmtSize x = length (stmtBytes x)
+
+abbrev pub endSize : End → ℕ
+endSize e = length (endBytes e)
+
+abbrev pub bodySize : Block → ℕ
+bodySize b = length (inTurn stmtBytes (b .body))
+
+abbrev pub blockPlace : Rule → ℕ → ℕ
+blockPlace r b = 4 + length (inTurn blockBytes (take b (r .blocks)))

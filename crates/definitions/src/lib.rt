@@ -33,9 +33,10 @@ pub enum Kind {
     OutOfRange,
 }
 
-// A fault, handed up whole.
+// A fault, handed up whole: why, and the offset of its operator's tag in the rule.
 pub struct Flaw {
     pub kind: Kind,
+    pub place: u16,
 }
 
 // What an operator comes to.
@@ -44,9 +45,10 @@ pub enum Outcome {
     Fault(Kind),
 }
 
-// How a row ended, or that it has not.
+// How a row ended, or that it has not; and where, for a fault.
 pub struct Finish {
     pub status: u8,
+    pub place: u16,
 }
 
 // Why and where bad input is refused.
@@ -85,13 +87,19 @@ pub enum Place {
 pub fn unfinished() -> Finish
     ensures { λ r. ⌜ r ≡ unfinished ⌝ }
 {
-    Finish { status: 0 }
+    Finish {
+        status: 0,
+        place: 0,
+    }
 }
 
 pub fn stopped() -> Finish
     ensures { λ r. ⌜ r ≡ stopped ⌝ }
 {
-    Finish { status: 1 }
+    Finish {
+        status: 1,
+        place: 0,
+    }
 }
 
 fn kind_number(k: Kind) -> u8
@@ -108,13 +116,19 @@ pub fn faulted(f: Flaw) -> Finish
 {
     let k = f.kind;
     let status = kind_number(k);
-    Finish { status }
+    Finish {
+        status,
+        place: f.place,
+    }
 }
 
 pub fn quota_full() -> Finish
     ensures { λ r. ⌜ r ≡ quotaFull ⌝ }
 {
-    Finish { status: 4 }
+    Finish {
+        status: 4,
+        place: 0,
+    }
 }
 
 // Whether a row that ends so goes on.

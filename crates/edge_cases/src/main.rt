@@ -51,9 +51,19 @@ fn batches() {
     case(b"divides.pages", b"faults.batch");
 }
 
+// Rules that fault: where, in an expression, a condition, a statement and a block.
+fn faults() {
+    case(b"inner_operand.pages", b"inner_operand.batch");
+    case(b"taken_arm.pages", b"taken_arm.batch");
+    case(b"condition_of_if.pages", b"condition_of_if.batch");
+    case(b"second_statement.pages", b"second_statement.batch");
+    case(b"block_of_four.pages", b"block_of_four.batch");
+}
+
 fn main() {
     files();
     rules();
     inputs();
     batches();
+    faults();
 }

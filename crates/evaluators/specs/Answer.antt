@@ -1,5 +1,5 @@
 -- The evaluators' answers, as the definitions have them. Assumes nothing: these are definitions.
-use Prim.Native.Nat.{ℕ, _≤_}
+use Prim.Native.Nat.{ℕ, _+_, _≤_}
 use mathlib.Core.Path.{_≡_}
 use lib.ListN.{length}
 use mathlib.Core.Bool.{Bool, cond}
@@ -7,7 +7,8 @@ use mathlib.Core.List.{List}
 use Rattle.definitions.specs.Values.{Word, Val, asWord, valuesIn, Out, value, fault, also}
 use Rattle.definitions.specs.Rule.{Expr, Cond, Case}
 use Rattle.definitions.specs.Grammar.{Got, got, refused, then, two, longest}
-use Rattle.definitions.specs.Meaning.{flaw, eval, holds}
+use Rattle.definitions.specs.Meaning.{atByte, flaw, eval, holds}
+use Rattle.definitions.specs.Spelling.{exprSize}
 use Rattle.definitions.specs.declared.Kind.the-variants.{OutOfRange}
 use Rattle.definitions.specs.declared.Flaw.{Flaw}
 use Rattle.definitions.specs.declared.Outcome.{Outcome}
@@ -24,10 +25,10 @@ unfoldable pub Readable : {A : Type 0} → Got A → Type 0
 Readable (got a n) = Unit {0}
 Readable (refused k p) = ⊥
 
--- what an operator's answer is at a place: its fault is handed up
-unfoldable pub placed : Outcome → ℕ → Evaluated
-placed (Outcome.Value x) n = Evaluated.Value x n
-placed (Outcome.Fault k) n = Evaluated.Fault (flaw k)
+-- what the answer of the operator at a place is, with the place after all of it: its fault is handed up
+unfoldable pub placed : Outcome → ℕ → ℕ → Evaluated
+placed (Outcome.Value x) at n = Evaluated.Value x n
+placed (Outcome.Fault k) at n = Evaluated.Fault (flaw (atByte at) k)
 
 -- the answer of the code for each case, with the place after what was worked out
 abbrev pub valueAt : Out Flaw Val → ℕ → Evaluated
@@ -42,14 +43,14 @@ abbrev pub bothAt : Out Flaw (Val × Val) → ℕ → Both
 bothAt (value p) n = Both.Values (asWord (p .0)) (asWord (p .1)) n
 bothAt (fault k) n = Both.Fault k
 
--- with the words of the variables: an expression's value, and whether a condition holds; where none stands nothing is asked
-unfoldable pub answer : Got Expr → List Word → Evaluated
-answer (got e n) vars = valueAt (eval e (valuesIn vars)) n
-answer (refused k p) vars = Evaluated.Fault (flaw OutOfRange)
+-- what stands at a place, with the words of the variables: an expression's value, and whether a condition holds; where none stands nothing is asked
+unfoldable pub answer : Got Expr → ℕ → List Word → Evaluated
+answer (got e n) at vars = valueAt (eval e (atByte at) (valuesIn vars)) n
+answer (refused k p) at vars = Evaluated.Fault (flaw (atByte at) OutOfRange)
 
-unfoldable pub holding : Got Cond → List Word → Verdict
-holding (got c n) vars = verdictAt (holds c (valuesIn vars)) n
-holding (refused k p) vars = Verdict.Fault (flaw OutOfRange)
+unfoldable pub holding : Got Cond → ℕ → List Word → Verdict
+holding (got c n) at vars = verdictAt (holds c (atByte at) (valuesIn vars)) n
+holding (refused k p) at vars = Verdict.Fault (flaw (atByte at) OutOfRange)
 
 -- two expressions, one after the other
 abbrev pub pairOf : Expr → Expr → Expr × Expr
@@ -58,14 +59,14 @@ pairOf a b = (a, b)
 abbrev pub pairs : (ℕ → Got Expr) → ℕ → Got (Expr × Expr)
 pairs E at = two pairOf E at
 
-unfoldable pub answers : Got (Expr × Expr) → List Word → Both
-answers (got p n) vars = bothAt (also (eval (p .0) (valuesIn vars)) (λ x. also (eval (p .1) (valuesIn vars)) (λ y. value (x, y)))) n
-answers (refused k p) vars = Both.Fault (flaw OutOfRange)
+unfoldable pub answers : Got (Expr × Expr) → ℕ → List Word → Both
+answers (got p n) at vars = bothAt (also (eval (p .0) (atByte at) (valuesIn vars)) (λ x. also (eval (p .1) (atByte (at + exprSize (p .0))) (valuesIn vars)) (λ y. value (x, y)))) n
+answers (refused k p) at vars = Both.Fault (flaw (atByte at) OutOfRange)
 
 -- one of them
-unfoldable pub picked : Bool → Got (Expr × Expr) → List Word → Evaluated
-picked h (got p n) vars = valueAt (cond h (eval (p .0) (valuesIn vars)) (eval (p .1) (valuesIn vars))) n
-picked h (refused k p) vars = Evaluated.Fault (flaw OutOfRange)
+unfoldable pub picked : Bool → Got (Expr × Expr) → ℕ → List Word → Evaluated
+picked h (got p n) at vars = valueAt (cond h (eval (p .0) (atByte at) (valuesIn vars)) (eval (p .1) (atByte (at + exprSize (p .0))) (valuesIn vars))) n
+picked h (refused k p) at vars = Evaluated.Fault (flaw (atByte at) OutOfRange)
 
 -- what follows a case's tag
 abbrev pub caseFrom : (ℕ → Got Expr) → (ℕ → Got Cond) → ℕ → Got Expr

@@ -16,7 +16,7 @@ use Rattle.buffers.specs.Words.{over}
 use Rattle.buffers.proofs.Laws.{over-set, over-next, over-pair, length-over}
 use Rattle.definitions.specs.Values.{Word, Val, asWord, valuesIn, wordsOf, unset}
 use Rattle.definitions.specs.Grammar.{mostVariables}
-use Rattle.definitions.specs.Batch.{countTo, columnsOf}
+use Rattle.definitions.specs.Batch.{recordSize, countTo, columnsOf}
 use Rattle.definitions.specs.Finder.{mostRows, mostQuota}
 use Rattle.definitions.specs.Calls.{mostBudget}
 use Rattle.definitions.proofs.Values.{words-length, words-append, value-at, values-set}
@@ -87,19 +87,23 @@ line-law d at row block cols d' hr hb h e =
     let w2 : toZ w32 block ≡ pos block = toZ-pos w32 (omega arith) in
     e ∙ rw (w1, w2, over-pair d at (pos row) (pos block) h) (over-next d at (pos row ∷ pos block ∷ []) (at + 2) cols refl (omega arith))
 
--- a record's first three words
-head : (d : List Word) (at : ℕ) (a b c : Word) → at + 3 ≤ length d → set (set (set d at a) (at + 1) b) (at + 2) c ≡ over d at (a ∷ b ∷ c ∷ [])
-head d at a b c h =
-    let l = length-over d at (a ∷ b ∷ []) (omega arith) in
-    rw (over-pair d at a b (omega arith)) (over-set (over d at (a ∷ b ∷ [])) (at + 2) c (omega (arith, l)) ∙ over-next d at (a ∷ b ∷ []) (at + 2) (c ∷ []) refl (omega arith))
+-- a store right after a write
+store-next : (d : List Word) (at : ℕ) (s : List Word) (n : ℕ) (x : Word) → n ≡ at + length s → n < length d → set (over d at s) n x ≡ over d at (s ++ (x ∷ []))
+store-next d at s n x e h = over-set (over d at s) n x (omega (arith, length-over d at s (omega arith))) ∙ over-next d at s n (x ∷ []) e (omega arith)
 
-pub record-law : (d : List Word) (at status begun count n : ℕ) (labels zeros d' d'' : List Word) → status < 256 → begun ≤ mostBudget → count ≤ mostQuota → length labels ≡ count → at + 3 + count ≤ length d
-    → d' ≡ over (set (set (set d at (toZ w32 status)) (at + 1) (toZ w32 begun)) (at + 2) (toZ w32 count)) (at + 3) labels → d'' ≡ over d' (at + 3 + count) zeros
-    → d'' ≡ over d at (pos status ∷ pos begun ∷ pos count ∷ (labels ++ zeros))
-record-law d at status begun count n labels zeros d' d'' hs hb hc hl h e e' =
+-- a record's words before its labels
+head : (d : List Word) (at : ℕ) (a b c p : Word) → at + recordSize 0 ≤ length d → set (set (set (set d at a) (at + 1) b) (at + 2) c) (at + 3) p ≡ over d at (a ∷ b ∷ c ∷ p ∷ [])
+head d at a b c p h =
+    rw (over-pair d at a b (omega arith), store-next d at (a ∷ b ∷ []) (at + 2) c refl (omega arith)) (store-next d at (a ∷ b ∷ c ∷ []) (at + 3) p refl (omega arith))
+
+pub record-law : (d : List Word) (at status begun count place : ℕ) (labels zeros d' d'' : List Word) → status < 256 → begun ≤ mostBudget → count ≤ mostQuota → place < 65536 → length labels ≡ count → at + recordSize 0 + count ≤ length d
+    → d' ≡ over (set (set (set (set d at (toZ w32 status)) (at + 1) (toZ w32 begun)) (at + 2) (toZ w32 count)) (at + 3) (toZ w32 place)) (at + recordSize 0) labels → d'' ≡ over d' (at + recordSize 0 + count) zeros
+    → d'' ≡ over d at (pos status ∷ pos begun ∷ pos count ∷ pos place ∷ (labels ++ zeros))
+record-law d at status begun count place labels zeros d' d'' hs hb hc hp hl h e e' =
     let w1 : toZ w32 status ≡ pos status = toZ-pos w32 (omega arith) in
     let w2 : toZ w32 begun ≡ pos begun = toZ-pos w32 (omega arith) in
     let w3 : toZ w32 count ≡ pos count = toZ-pos w32 (omega arith) in
-    let one : d' ≡ over d at (pos status ∷ pos begun ∷ pos count ∷ labels) =
-    e ∙ rw (w1, w2, w3, head d at (pos status) (pos begun) (pos count) (omega arith)) (over-next d at (pos status ∷ pos begun ∷ pos count ∷ []) (at + 3) labels refl (omega arith)) in
-    e' ∙ rw one (over-next d at (pos status ∷ pos begun ∷ pos count ∷ labels) (at + 3 + count) zeros (omega arith) (omega arith))
+    let w4 : toZ w32 place ≡ pos place = toZ-pos w32 (omega arith) in
+    let one : d' ≡ over d at (pos status ∷ pos begun ∷ pos count ∷ pos place ∷ labels) =
+    e ∙ rw (w1, w2, w3, w4, head d at (pos status) (pos begun) (pos count) (pos place) (omega arith)) (over-next d at (pos status ∷ pos begun ∷ pos count ∷ pos place ∷ []) (at + recordSize 0) labels refl (omega arith)) in
+    e' ∙ rw one (over-next d at (pos status ∷ pos begun ∷ pos count ∷ pos place ∷ labels) (at + recordSize 0 + count) zeros (omega arith) (omega arith))

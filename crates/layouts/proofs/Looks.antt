@@ -118,10 +118,10 @@ module _ {l : Layout} {from : ℕ} {out work : List Word} (p : SomeRowAt l from 
       pub get-count : getD out (at + 2) (pos 0) ≡ pos (length (p .at .state .labels))
       get-count = rw at-place (get-record 2 (omega arith))
 
-      pub get-labels : (count : ℕ) → count ≡ natAbs (getD out (at + 2) (pos 0)) → take count (drop (at + 3) out) ≡ wordsOf (p .at .state .labels)
+      pub get-labels : (count : ℕ) → count ≡ natAbs (getD out (at + 2) (pos 0)) → take count (drop (at + recordSize 0) out) ≡ wordsOf (p .at .state .labels)
       get-labels count c =
           let s = p .at .state in
-          rw at-place (part-part out (pos (s .finish .status) ∷ pos (s .begun) ∷ pos (length (s .labels)) ∷ []) (wordsOf (s .labels)) (replicate (q - length (s .labels)) (pos 0)) place (recordSize q) 3 count (p .at .record') refl (words-length (s .labels) ∙ sym (c ∙ ap natAbs get-count)))
+          rw at-place (part-part out (pos (s .finish .status) ∷ pos (s .begun) ∷ pos (length (s .labels)) ∷ pos (s .finish .place) ∷ []) (wordsOf (s .labels)) (replicate (q - length (s .labels)) (pos 0)) place (recordSize q) (recordSize 0) count (p .at .record') refl (words-length (s .labels) ∙ sym (c ∙ ap natAbs get-count)))
 
   -- the columns of the line are those of the row's variables
   pub get-vars : (vars : List Word) → valuesIn vars ≡ spread (l .variables) (bitOf (l .lc)) (valuesIn (drop (from + 2) work)) → Alike (p .rule .variables) (LC (flowOf (p .rule))) (p .at .state .vars) (valuesIn vars)

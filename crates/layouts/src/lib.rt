@@ -8,7 +8,7 @@ ghost use lib.Signed.{nonNeg};
 ghost use lib.ListN.{length, getD, take, drop, replicate};
 ghost use Rattle.buffers.specs.Words.{over};
 ghost use Rattle.definitions.specs.Values.{valuesIn, wordsOf};
-ghost use Rattle.definitions.specs.Batch.{recordSize, lineSize, countTo, columnsOf};
+ghost use Rattle.definitions.specs.Batch.{recordSize, recordWords, lineSize, countTo, columnsOf};
 ghost use Rattle.definitions.specs.Finder.{mostRows, mostQuota, mostColumns};
 ghost use Rattle.definitions.specs.Calls.{mostBudget};
 ghost use Rattle.definitions.specs.Plan.{bitOf};
@@ -32,7 +32,7 @@ pub struct Layout {
 // ---- sizes
 
 // A record's numbers before its labels, and a line's before its columns.
-const RECORD_HEAD: usize = 3;
+const RECORD_HEAD: usize = 4;
 
 const LINE_HEAD: usize = 2;
 
@@ -67,7 +67,7 @@ pub const MOST_LINES: usize = ROWS * (LINE_HEAD + VARIABLES);
 
 // ---- a record
 
-// A row's record into out, from index at on: its three numbers, then its labels, then zeros up to the quota.
+// A row's record into out, from index at on: its four numbers, then its labels, then zeros up to the quota.
 pub fn put_record(
     out: &mut [i32],
     at: usize,
@@ -78,12 +78,14 @@ pub fn put_record(
     labels: &[i32; QUOTA],
 )
     requires { ⌜ (begun ≤ mostBudget) × ((count ≤ quota) × ((quota ≤ mostQuota) × (at + recordSize quota ≤ length (now out)))) ⌝ }
-    ensures { λ _. ⌜ now (out .exit) ≡ over (now (out .entry)) at (pos (finish .status) ∷ pos begun ∷ pos count ∷ (take count (now (labels .entry)) ++ replicate (quota - count) (pos 0))) ⌝ }
+    ensures { λ _. ⌜ now (out .exit) ≡ over (now (out .entry)) at (recordWords quota finish begun count (take count (now (labels .entry)))) ⌝ }
 {
     let status = finish.status;
+    let place = finish.place;
     out[at] = status as i32;
     out[at + 1] = begun as i32;
     out[at + 2] = count as i32;
+    out[at + 3] = place as i32;
     let first = at + RECORD_HEAD;
     let all = &labels[..];
     buffers::copy_at(out, first, &all[0..count]);

@@ -1,4 +1,4 @@
--- 01, the program: the text that it prints of a batch's result, and of a refusal.
+-- 01, the program, and K4 of 02: the text that it prints of a batch's result, and of a refusal.
 use Prim.Native.Nat.{ℕ, zero, suc, _+_, _*_, _/_, _%_, min}
 use mathlib.Core.Bool.{cond}
 use mathlib.Core.List.{List, [], _∷_, _++_}
@@ -53,7 +53,7 @@ shown q (negsuc n) = 0
 abbrev pub recordAt : ℕ → ℕ → ℕ
 recordAt q row = row * recordSize q
 
--- a row's line: its number; status, rounds and count; the labels
+-- a row's line: its number; status, rounds, count and the fault's place; the labels
 unfoldable pub lineText : ℕ → List Word → ℕ → List ℕ
 lineText q result row =
     decimal row ++ (wordsText result (recordAt q row) (recordSize (shown q (getD result (recordAt q row + 2) (pos 0)))) ++ newline)

@@ -10,7 +10,8 @@ use lib.ListN.{length, getD}
 use Rattle.definitions.specs.Values.{Word, valuesIn, value}
 use Rattle.definitions.specs.Rule.{Cond, End, Goto, Jump, Stop, If}
 use Rattle.definitions.specs.Grammar.{got, refused, two, targetAt, mayGoto, mayJump, depth, condAt, endAt, endBody, endTag}
-use Rattle.definitions.specs.Meaning.{holds}
+use Rattle.definitions.specs.Spelling.{condSize, endSize}
+use Rattle.definitions.specs.Meaning.{atByte, holds}
 use Rattle.definitions.specs.Direct.{exit}
 use Rattle.definitions.specs.declared.Flaw.{Flaw}
 use Rattle.evaluators.specs.Skip.{past}
@@ -21,6 +22,7 @@ use Rattle.rounds.specs.declared.blocks.Leading.{Leading}
 use Rattle.evaluators.proofs.Tags.{end-bad}
 use Rattle.evaluators.proofs.Reading.{no-got, then-got, one-got, two-got, byte-got, target-got}
 use Rattle.evaluators.proofs.Skipping.{end-past, past-one}
+use Rattle.evaluators.proofs.Sizes.{cond-size, end-size}
 use Rattle.evaluators.proofs.Answers.{is-got, holds-is, held-fault-is}
 
 module _ (left v : ℕ) (s : List ℕ) (at : ℕ) (h : EndHere left v s at) where
@@ -64,15 +66,15 @@ module _ (left v : ℕ) (s : List ℕ) (at : ℕ) (h : EndHere left v s at) wher
   pub jump-there : getD s at 0 ≡ 0x31 → at + 1 < length s
   jump-there e = end-jump e .0
 
-  pub goto-answer : (env : List Word) → getD s at 0 ≡ 0x30 → Leading.Goto (getD s (at + 1) 0) ≡ leadingOf (exit (h .ending) (valuesIn env))
+  pub goto-answer : (env : List Word) → getD s at 0 ≡ 0x30 → Leading.Goto (getD s (at + 1) 0) ≡ leadingOf (exit (h .ending) (atByte at) (valuesIn env))
   unfolding exit
   goto-answer env e = rw (end-goto e .1)
 
-  pub jump-answer : (env : List Word) → getD s at 0 ≡ 0x31 → Leading.Jump (getD s (at + 1) 0) ≡ leadingOf (exit (h .ending) (valuesIn env))
+  pub jump-answer : (env : List Word) → getD s at 0 ≡ 0x31 → Leading.Jump (getD s (at + 1) 0) ≡ leadingOf (exit (h .ending) (atByte at) (valuesIn env))
   unfolding exit
   jump-answer env e = rw (end-jump e .1)
 
-  pub stop-answer : (env : List Word) → getD s at 0 ≡ 0x32 → Leading.Stop ≡ leadingOf (exit (h .ending) (valuesIn env))
+  pub stop-answer : (env : List Word) → getD s at 0 ≡ 0x32 → Leading.Stop ≡ leadingOf (exit (h .ending) (atByte at) (valuesIn env))
   unfolding exit
   stop-answer env e = let w = end-as 0x32 e in let q : h .ending ≡ Stop = cc in rw q
 
@@ -110,22 +112,26 @@ module _ (left v : ℕ) (s : List ℕ) (at : ℕ) (h : EndHere left v s at) wher
     pub if-stands : Readable (condAt depth v s (at + 1))
     if-stands = is-got (condAt depth v s (at + 1)) (parts .test) (parts .m) (parts .test-reads)
 
-    pub if-fault : (env : List Word) (f : Flaw) → holding (condAt depth v s (at + 1)) env ≡ Verdict.Fault f → Leading.Fault f ≡ leadingOf (exit (h .ending) (valuesIn env))
+    pub if-fault : (env : List Word) (f : Flaw) → holding (condAt depth v s (at + 1)) (at + 1) env ≡ Verdict.Fault f → Leading.Fault f ≡ leadingOf (exit (h .ending) (atByte at) (valuesIn env))
     unfolding exit
     if-fault env f e =
-        let w = held-fault-is env (condAt depth v s (at + 1)) f if-stands e in
+        let w = held-fault-is env (at + 1) (condAt depth v s (at + 1)) f if-stands e in
         let q = sym (w .2) ∙ parts .test-reads in
         let same : w .0 ≡ parts .test = cc in
         rw (parts .is, ← same, w .3)
 
     -- which ending is taken, and where it stands
-    module _ (env : List Word) (b : Bool) (n : ℕ) (e : holding (condAt depth v s (at + 1)) env ≡ Verdict.Holds b n) where
-      held : (parts .m ≡ n) × (holds (parts .test) (valuesIn env) ≡ value b)
+    module _ (env : List Word) (b : Bool) (n : ℕ) (e : holding (condAt depth v s (at + 1)) (at + 1) env ≡ Verdict.Holds b n) where
+      held : (parts .m ≡ n) × (holds (parts .test) (atByte (at + 1)) (valuesIn env) ≡ value b)
       held =
-          let w = holds-is env (condAt depth v s (at + 1)) b n e in
+          let w = holds-is env (at + 1) (condAt depth v s (at + 1)) b n e in
           let q = sym (w .1) ∙ parts .test-reads in
           let same : w .0 ≡ parts .test = cc in
           (cc, rw (← same) (w .2))
+
+      -- where its endings stand
+      first-at : at + (1 + condSize (parts .test)) ≡ n
+      first-at = omega (arith, held .0, cond-size depth v s (at + 1) (parts .test) (parts .m) (parts .test-reads))
 
       pub if-first : EndHere (left - 1) v s n
       if-first = record { targets = h .targets; ending = parts .first; next = parts .k; reads = rw (held .0) at (parts .first-reads) }
@@ -139,10 +145,16 @@ module _ (left v : ℕ) (s : List ℕ) (at : ℕ) (h : EndHere left v s at) wher
         reads = rw (past-one s (λ m. endAt (left - 1) (h .targets) v s m) (end-past (left - 1) (h .targets) v s) n (parts .first) (parts .k) (if-first .reads)) (parts .second-reads);
       }
 
-      pub if-true : (r : Leading) → b ≡ true → ((g : EndHere (left - 1) v s n) → r ≡ leadingOf (exit (g .ending) (valuesIn env))) → r ≡ leadingOf (exit (h .ending) (valuesIn env))
-      unfolding exit if-first
-      if-true r t q = rw (parts .is, held .1, t) (q if-first)
+      second-at : at + (1 + condSize (parts .test) + endSize (parts .first)) ≡ past 1 s n
+      unfolding if-first
+      second-at =
+          let p = past-one s (λ m. endAt (left - 1) (h .targets) v s m) (end-past (left - 1) (h .targets) v s) n (parts .first) (parts .k) (if-first .reads) in
+          omega (arith, p, first-at, end-size (left - 1) (h .targets) v s n (parts .first) (parts .k) (if-first .reads))
 
-      pub if-false : (r : Leading) → b ≡ false → ((g : EndHere (left - 1) v s (past 1 s n)) → r ≡ leadingOf (exit (g .ending) (valuesIn env))) → r ≡ leadingOf (exit (h .ending) (valuesIn env))
+      pub if-true : (r : Leading) → b ≡ true → ((g : EndHere (left - 1) v s n) → r ≡ leadingOf (exit (g .ending) (atByte n) (valuesIn env))) → r ≡ leadingOf (exit (h .ending) (atByte at) (valuesIn env))
+      unfolding exit if-first
+      if-true r t q = rw (parts .is, held .1, t, first-at) (q if-first)
+
+      pub if-false : (r : Leading) → b ≡ false → ((g : EndHere (left - 1) v s (past 1 s n)) → r ≡ leadingOf (exit (g .ending) (atByte (past 1 s n)) (valuesIn env))) → r ≡ leadingOf (exit (h .ending) (atByte at) (valuesIn env))
       unfolding exit if-second
-      if-false r t q = rw (parts .is, held .1, t) (q if-second)
+      if-false r t q = rw (parts .is, held .1, t, second-at) (q if-second)

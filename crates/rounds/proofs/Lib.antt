@@ -3,4 +3,5 @@ pub mod Stepping
 pub mod Keeping
 pub mod Passing
 pub mod Longer
+pub mod Placing
 pub mod Rounding

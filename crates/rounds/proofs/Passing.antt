@@ -7,6 +7,7 @@ use Rattle.definitions.specs.declared.Flaw.{Flaw}
 use Rattle.definitions.specs.declared.Finish.{Finish}
 use Rattle.definitions.specs.Grammar.{levels}
 use Rattle.definitions.specs.Plan.{bitOf}
+use Rattle.definitions.specs.Meaning.{atByte}
 use Rattle.definitions.specs.Direct.{ended, Exit, toBlock, toRound, toStop, exit, Round, leave}
 use Rattle.columns.specs.OnPlan.{kept}
 use Rattle.rounds.specs.Run.{EndHere, leadingOf, BlockHere, labelsIn, BodyRun, passageOf, roundOf, labelsOf, BlockRun}
@@ -38,10 +39,10 @@ module _ (v : ℕ) (s : List ℕ) (e : Entry) (h : BlockHere v s (e .place)) (q 
   block-ended env how n vars' labels' a w = record { round = λ W. rw (← a, ← w .way) refl; within = w .within; rest = w .rest }
 
   -- the statements were run, and then the ending
-  pub block-left : (env : List Word) (p n : ℕ) (mid vars' labels' : List Word) (l : Leading) (r : Passage) → valuesIn env ≡ kept v (bitOf (e .inputs)) (valuesIn vars) → BodyRun v s (e .place) h q count env labels (Body.Ready p n) mid labels' → ((g : EndHere levels v s p) → l ≡ leadingOf (exit (g .ending) (valuesIn mid))) → valuesIn vars' ≡ kept v (bitOf (e .outputs)) (valuesIn mid) → r ≡ passageOf l n → BlockRun v s e h q count vars labels r vars' labels'
+  pub block-left : (env : List Word) (p n : ℕ) (mid vars' labels' : List Word) (l : Leading) (r : Passage) → valuesIn env ≡ kept v (bitOf (e .inputs)) (valuesIn vars) → BodyRun v s (e .place) h q count env labels (Body.Ready p n) mid labels' → ((g : EndHere levels v s p) → l ≡ leadingOf (exit (g .ending) (atByte p) (valuesIn mid))) → valuesIn vars' ≡ kept v (bitOf (e .outputs)) (valuesIn mid) → r ≡ passageOf l n → BlockRun v s e h q count vars labels r vars' labels'
   unfolding block-ending
   block-left env p n mid vars' labels' l r a w x k y =
-      let is : l ≡ leadingOf (exit (h .what .ending) (valuesIn mid)) = x (block-ending v s (e .place) h q count env labels p n mid labels' w) in
-      let same : r ≡ passageOf (leadingOf (exit (h .what .ending) (valuesIn mid))) n = y ∙ ap (λ (m : Leading). passageOf m n) is in
+      let is : l ≡ leadingOf (exit (h .what .ending) (atByte p) (valuesIn mid)) = x (block-ending v s (e .place) h q count env labels p n mid labels' w) in
+      let same : r ≡ passageOf (leadingOf (exit (h .what .ending) (atByte p) (valuesIn mid))) n = y ∙ ap (λ (m : Leading). passageOf m n) is in
       let size : labelsOf r ≡ n = ap labelsOf y ∙ led-labels l n in
-      record { round = λ W. rw (same, ← a, ← w .way, ← k) (led (exit (h .what .ending) (valuesIn mid)) n vars' labels' W); within = rw size (w .within); rest = rw size (w .rest) }
+      record { round = λ W. rw (same, ← a, ← w .way, ← k, ← w .place p n refl) (led (exit (h .what .ending) (atByte p) (valuesIn mid)) n vars' labels' W); within = rw size (w .within); rest = rw size (w .rest) }

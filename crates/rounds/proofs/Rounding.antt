@@ -14,19 +14,22 @@ use Rattle.definitions.specs.Rule.{Rule, size, blockOf}
 use Rattle.definitions.specs.Grammar.{targetsOf}
 use Rattle.definitions.specs.Columns.{flowOf, inputsOf, outputsOf}
 use Rattle.definitions.specs.Plan.{maskOf, bitOf, placeOf, wordAt, bodiesAt, carried}
-use Rattle.definitions.specs.Direct.{unfinished, Way, on, ended, steps, Exit, toBlock, toRound, toStop, exit, Round, jumped, finished, leave}
+use Rattle.definitions.specs.Spelling.{bodySize, blockPlace}
+use Rattle.definitions.specs.Meaning.{atByte}
+use Rattle.definitions.specs.Direct.{unfinished, Way, on, ended, steps, bodyAt, endingAt, origin, Exit, toBlock, toRound, toStop, exit, Round, jumped, finished, leave}
 use Rattle.definitions.proofs.Masks.{read-back}
 use Rattle.columns.specs.OnPlan.{kept, entered, handed, leaving, planWalk}
 use Rattle.columns.specs.Proper.{Proper}
 use Rattle.columns.proofs.Endings.{Named, exit-named}
 use Rattle.columns.proofs.Keeping.{KeptWay, steps-kept, leave-kept}
 use Rattle.plans.specs.Accepted.{ruleIn, Accepted}
-use Rattle.plans.proofs.Carried.{at-variables, at-blocks, at-past, at-offset, at-inputs, at-outputs, at-place}
+use Rattle.plans.proofs.Carried.{carried-rule, at-variables, at-blocks, at-past, at-offset, at-inputs, at-outputs, at-place}
 use Rattle.rounds.specs.declared.blocks.Passage.{Passage}
 use Rattle.rounds.specs.declared.blocks.Entry.{Entry}
 use Rattle.rounds.specs.Run.{Prefix, BlockHere, labelsIn, roundOf, labelsOf, leftBy, BlockRun}
 use Rattle.rounds.specs.Round.{Entered, endedAs, jumpTo, Walked, Going}
 use Rattle.rounds.proofs.Keeping.{kept-same}
+use Rattle.rounds.proofs.Placing.{place-is}
 use Rattle.rounds.proofs.Longer.{block-over}
 
 module _ (p : List ℕ) (a : Accepted p) where
@@ -78,16 +81,21 @@ module _ (p : List ℕ) (a : Accepted p) where
       ran = passed (here v′ s (e .place) ev es (said .place'))
 
       abbrev way : Way
-      way = steps q (blockOf r b .body) (entered r b (valuesIn vars)) (labelsIn count labels)
+      way = steps q (blockOf r b .body) (bodyAt origin r b) (entered r b (valuesIn vars)) (labelsIn count labels)
 
-      left-is : (o : Way) (W : ℕ → List Val → List Val → Round) → leftBy v′ (bitOf (e .outputs)) o (blockOf r b .ending) W ≡ leaving r b o (blockOf r b .ending) W
+      -- the entry's place is the block's
+      stands : e .place ≡ 0 + blockPlace r b
+      stands = omega (arith, said .place', place-is (carried p) r (a .next) (carried-rule p a) b (omega arith))
+
+      left-is : (o : Way) (W : ℕ → List Val → List Val → Round) → leftBy v′ (bitOf (e .outputs)) o (blockOf r b .ending) (endingAt origin r b) W ≡ leaving r b o (blockOf r b .ending) W
       left-is (on env ls) W = rw (ev ∙ at-variables p a, said .outputs', masked (outputsOf (flowOf r) b) env)
       left-is (ended how ls) W = refl
 
       pub next-round : (W : ℕ → List Val → List Val → Round) → roundOf w vars' labels' W ≡ leaving r b way (blockOf r b .ending) W
       next-round W =
           ran .round W
-          ∙ ap (λ env. leftBy v′ (bitOf (e .outputs)) (steps q (blockOf r b .body) env (labelsIn count labels)) (blockOf r b .ending) W)
+          ∙ ap (λ k. leftBy v′ (bitOf (e .outputs)) (steps q (blockOf r b .body) (atByte k) (kept v′ (bitOf (e .inputs)) (valuesIn vars)) (labelsIn count labels)) (blockOf r b .ending) (atByte (k + bodySize (blockOf r b))) W) stands
+          ∙ ap (λ env. leftBy v′ (bitOf (e .outputs)) (steps q (blockOf r b .body) (bodyAt origin r b) env (labelsIn count labels)) (blockOf r b .ending) (endingAt origin r b) W)
           (rw (ev ∙ at-variables p a, said .inputs') (masked (inputsOf (flowOf r) b) (valuesIn vars)))
           ∙ left-is way W
 
@@ -111,20 +119,20 @@ module _ (p : List ℕ) (a : Accepted p) where
           exits env ls (fault x) n f = let e = f (λ x _ _. jumped x [] []) in let z : _≡_ {A = ℕ} 0 1 = cc in absurd (omega arith)
 
           go : (o : Way) → way ≡ o → t < size r
-          go (on env ls) i = exits env ls (exit (blockOf r b .ending) env) (exit-named (blockOf r b .ending) env) (λ W. goes W ∙ ap (λ o. leaving r b o (blockOf r b .ending) W) i)
+          go (on env ls) i = exits env ls (exit (blockOf r b .ending) (endingAt origin r b) env) (exit-named (blockOf r b .ending) (endingAt origin r b) env) (λ W. goes W ∙ ap (λ o. leaving r b o (blockOf r b .ending) W) i)
           go (ended how ls) i = let e = goes (λ x _ _. jumped x [] []) ∙ ap (λ o. leaving r b o (blockOf r b .ending) (λ x _ _. jumped x [] [])) i in let z : _≡_ {A = ℕ} 0 1 = cc in absurd (omega arith)
 
       -- a row that has ended does not go on
       pub ends : (how : Finish) (k : ℕ) → w ≡ Passage.Ended how k → 0 < how .status
-      ends how k g = go way (steps-kept q (λ _. Unit {0}) (λ _. Unit {0}) (λ _. Unit {0}) (λ _ _ _ _ _ _ _. tt) (λ _ _ _ _ _ _ _ _ _. tt) (blockOf r b .body) (entered r b (valuesIn vars)) (labelsIn count labels) (λ _ _. tt) tt tt) refl
+      ends how k g = go way (steps-kept q (λ _. Unit {0}) (λ _. Unit {0}) (λ _. Unit {0}) (λ _ _ _ _ _ _ _ _. tt) (λ _ _ _ _ _ _ _ _ _ _. tt) (blockOf r b .body) (bodyAt origin r b) (entered r b (valuesIn vars)) (labelsIn count labels) (λ _ _. tt) tt tt) refl
         where
           W : ℕ → List Val → List Val → Round
           W x env ls = jumped x env ls
 
           go : (o : Way) → KeptWay (λ _. Unit {0}) (λ _. Unit {0}) o → way ≡ o → 0 < how .status
           go (on env ls) kept i =
-              let l = leave-kept q (λ _. Unit {0}) (λ _. Unit {0}) (λ _. Unit {0}) (λ _ _ _ _ _ _ _. tt) (λ _ _ _ _ _ _ _ _ _. tt) (exit (blockOf r b .ending) env) (handed r b env) ls (λ u. W u (handed r b env) ls) tt tt (λ u. (tt, tt)) in
-              let e : finished how (labelsIn k labels') ≡ leave (exit (blockOf r b .ending) env) (handed r b env) ls (λ u. W u (handed r b env) ls) =
+              let l = leave-kept q (λ _. Unit {0}) (λ _. Unit {0}) (λ _. Unit {0}) (λ _ _ _ _ _ _ _ _. tt) (λ _ _ _ _ _ _ _ _ _ _. tt) (exit (blockOf r b .ending) (endingAt origin r b) env) (handed r b env) ls (λ u. W u (handed r b env) ls) tt tt (λ u. (tt, tt)) in
+              let e : finished how (labelsIn k labels') ≡ leave (exit (blockOf r b .ending) (endingAt origin r b) env) (handed r b env) ls (λ u. W u (handed r b env) ls) =
               sym (ap (λ x. roundOf x vars' labels' W) g) ∙ next-round W ∙ ap (λ o. leaving r b o (blockOf r b .ending) W) i in
               (rw (← e) at l) .0 .0
           go (ended such ls) kept i =

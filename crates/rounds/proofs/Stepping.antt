@@ -15,7 +15,8 @@ use Rattle.definitions.specs.Values.{Word, number, valuesIn, value, fault}
 use Rattle.definitions.specs.Rule.{Expr, Set, Emit, End, Block}
 use Rattle.definitions.specs.declared.Targets.{Targets}
 use Rattle.definitions.specs.Grammar.{Got, got, then, one, variableAt, depth, levels, exprAt, setAt, emitAt, endAt, withFirst, StmtTag, setTag, emitTag, noStmt, stmtTag, blockBody, blockFrom}
-use Rattle.definitions.specs.Meaning.{eval}
+use Rattle.definitions.specs.Spelling.{stmtSize, inTurn, bodySize}
+use Rattle.definitions.specs.Meaning.{atByte, eval}
 use Rattle.definitions.specs.Direct.{on, ended, onward, faulted, quotaFull, step, steps}
 use Rattle.definitions.specs.declared.Flaw.{Flaw}
 use Rattle.definitions.specs.declared.Finish.{Finish}
@@ -28,6 +29,7 @@ use Rattle.evaluators.specs.declared.Evaluated.{Evaluated}
 use Rattle.rounds.specs.declared.blocks.Body.{Body}
 use Rattle.evaluators.proofs.Reading.{no-got, then-got, one-got, byte-got, variable-got}
 use Rattle.evaluators.proofs.Skipping.{past-grows, past-one, expr-past}
+use Rattle.evaluators.proofs.Sizes.{set-size, emit-size, first-size}
 use Rattle.evaluators.proofs.Answers.{is-got, value-is, fault-is}
 use Rattle.evaluators.proofs.Evaluating.{expr-there}
 use Rattle.rounds.proofs.Ending.{end-there}
@@ -80,63 +82,72 @@ module _ (v : ℕ) (s : List ℕ) (at : ℕ) (h : StmtHere v s at) where
       go (yes e) = let w = set-here e in omega (arith, expr-grows depth v s (at + 2) (w .value) (h .next) (w .reads) .1)
       go (no f) = let w = emit-here f in omega (arith, expr-grows depth v s (at + 1) (w .value) (h .next) (w .reads) .1)
 
+  -- it ends where its bytes end
+  stmt-size : h .next ≡ at + stmtSize (h .what)
+  stmt-size = go (stmtTag (getD s at 0)) (stmt-there .1)
+    where
+      go : (t : StmtTag) → stmtBody t v s at ≡ got (h .what) (h .next) → h .next ≡ at + stmtSize (h .what)
+      go setTag q = set-size v s at (h .what) (h .next) q
+      go emitTag q = emit-size v s at (h .what) (h .next) q
+      go noStmt q = absurd (no-got 5 at (h .what) (h .next) q)
+
 -- what the evaluator's answer says of the expression that stands there
-module _ {p : Got Expr} {e : Expr} {n : ℕ} (reads : p ≡ got e n) (env : List Word) where
-  valued : (z : ℤ) (m : ℕ) → answer p env ≡ Evaluated.Value z m → (n ≡ m) × (eval e (valuesIn env) ≡ value (number z))
+module _ {p : Got Expr} {e : Expr} {n : ℕ} (reads : p ≡ got e n) (at : ℕ) (env : List Word) where
+  valued : (z : ℤ) (m : ℕ) → answer p at env ≡ Evaluated.Value z m → (n ≡ m) × (eval e (atByte at) (valuesIn env) ≡ value (number z))
   valued z m a =
-      let u = value-is env p z m a in
+      let u = value-is env at p z m a in
       let both = sym reads ∙ u .1 in
       let same : n ≡ m = cc in
       let expr : e ≡ u .0 = cc in
       (same, rw expr (u .2))
 
-  faulty : (k : Flaw) → answer p env ≡ Evaluated.Fault k → eval e (valuesIn env) ≡ fault k
+  faulty : (k : Flaw) → answer p at env ≡ Evaluated.Fault k → eval e (atByte at) (valuesIn env) ≡ fault k
   faulty k a =
-      let u = fault-is env p k (is-got p e n reads) a in
+      let u = fault-is env at p k (is-got p e n reads) a in
       let both = sym reads ∙ u .2 in
       let expr : e ≡ u .0 = cc in
       rw expr (u .3)
 
 module _ {v : ℕ} {s : List ℕ} {at : ℕ} (h : StmtHere v s at) {q count : ℕ} {vars labels : List Word} (few : count ≤ q) where
   -- the row ends so, here
-  ends : (how : Finish) → step q (h .what) (valuesIn vars) (labelsIn count labels) ≡ ended how (labelsIn count labels) → StmtRun (h .what) (h .next) q count vars labels (Body.Ended how count) vars labels
+  ends : (how : Finish) → step q (h .what) (atByte at) (valuesIn vars) (labelsIn count labels) ≡ ended how (labelsIn count labels) → StmtRun (h .what) at (h .next) q count vars labels (Body.Ended how count) vars labels
   ends how e = record { way = sym e; place = λ p k r. let z : _≡_ {A = ℕ} 0 1 = cc in absurd (omega arith); grows = omega arith; within = few; rest = refl }
 
   -- ---- a set
-  pub set-on : (z : ℤ) (m : ℕ) → getD s at 0 ≡ 0x20 → answer (exprAt depth v s (at + 2)) vars ≡ Evaluated.Value z m → StmtRun (h .what) (h .next) q count vars labels (Body.Ready m count) (set vars (getD s (at + 1) 0) z) labels
+  pub set-on : (z : ℤ) (m : ℕ) → getD s at 0 ≡ 0x20 → answer (exprAt depth v s (at + 2)) (at + 2) vars ≡ Evaluated.Value z m → StmtRun (h .what) at (h .next) q count vars labels (Body.Ready m count) (set vars (getD s (at + 1) 0) z) labels
   unfolding step
   set-on z m e a =
       let w = set-here v s at h e in
-      let u = valued (w .reads) vars z m a in
+      let u = valued (w .reads) (at + 2) vars z m a in
       let same = u .0 in
       record { way = rw (w .is, u .1, values-set vars (getD s (at + 1) 0) z); place = λ p k r. cc; grows = omega arith; within = few; rest = refl }
 
-  pub set-fault : (k : Flaw) (how : Finish) → getD s at 0 ≡ 0x20 → answer (exprAt depth v s (at + 2)) vars ≡ Evaluated.Fault k → how ≡ faulted k → StmtRun (h .what) (h .next) q count vars labels (Body.Ended how count) vars labels
+  pub set-fault : (k : Flaw) (how : Finish) → getD s at 0 ≡ 0x20 → answer (exprAt depth v s (at + 2)) (at + 2) vars ≡ Evaluated.Fault k → how ≡ faulted k → StmtRun (h .what) at (h .next) q count vars labels (Body.Ended how count) vars labels
   unfolding step
-  set-fault k how e a f = let w = set-here v s at h e in rw f (ends (faulted k) (rw (w .is, faulty (w .reads) vars k a)))
+  set-fault k how e a f = let w = set-here v s at h e in rw f (ends (faulted k) (rw (w .is, faulty (w .reads) (at + 2) vars k a)))
 
   -- ---- an emit
-  pub emit-on : (z : ℤ) (m : ℕ) → (getD s at 0 ≡ 0x20 → ⊥) → answer (exprAt depth v s (at + 1)) vars ≡ Evaluated.Value z m → count < q → q ≤ length labels → StmtRun (h .what) (h .next) q count vars labels (Body.Ready m (count + 1)) vars (set labels count z)
+  pub emit-on : (z : ℤ) (m : ℕ) → (getD s at 0 ≡ 0x20 → ⊥) → answer (exprAt depth v s (at + 1)) (at + 1) vars ≡ Evaluated.Value z m → count < q → q ≤ length labels → StmtRun (h .what) at (h .next) q count vars labels (Body.Ready m (count + 1)) vars (set labels count z)
   unfolding step
   emit-on z m f a l room =
       let w = emit-here v s at h f in
-      let u = valued (w .reads) vars z m a in
+      let u = valued (w .reads) (at + 1) vars z m a in
       let same = u .0 in
       let more : labelsIn (count + 1) (set labels count z) ≡ labelsIn count labels ++ (number z ∷ []) = rw (add-one, take-suc-set labels count z (omega arith)) (values-append (take count labels) (z ∷ [])) in
       let size : length (labelsIn count labels) ≡ count = values-length (take count labels) ∙ length-take-le count labels (omega arith) in
       record { way = rw (w .is, u .1, size, lt-ltb count q l, more); place = λ p k r. cc; grows = omega arith; within = omega arith; rest = drop-set-lt (count + 1) labels count z (omega arith) }
 
-  pub emit-full : (z : ℤ) (m : ℕ) → (getD s at 0 ≡ 0x20 → ⊥) → answer (exprAt depth v s (at + 1)) vars ≡ Evaluated.Value z m → q ≤ count → q ≤ length labels → StmtRun (h .what) (h .next) q count vars labels (Body.Ended quotaFull count) vars labels
+  pub emit-full : (z : ℤ) (m : ℕ) → (getD s at 0 ≡ 0x20 → ⊥) → answer (exprAt depth v s (at + 1)) (at + 1) vars ≡ Evaluated.Value z m → q ≤ count → q ≤ length labels → StmtRun (h .what) at (h .next) q count vars labels (Body.Ended quotaFull count) vars labels
   unfolding step
   emit-full z m f a l room =
       let w = emit-here v s at h f in
-      let u = valued (w .reads) vars z m a in
+      let u = valued (w .reads) (at + 1) vars z m a in
       let size : length (labelsIn count labels) ≡ count = values-length (take count labels) ∙ length-take-le count labels (omega arith) in
       ends quotaFull (rw (w .is, u .1, size, le-ltb count q l))
 
-  pub emit-fault : (k : Flaw) (how : Finish) → (getD s at 0 ≡ 0x20 → ⊥) → answer (exprAt depth v s (at + 1)) vars ≡ Evaluated.Fault k → how ≡ faulted k → StmtRun (h .what) (h .next) q count vars labels (Body.Ended how count) vars labels
+  pub emit-fault : (k : Flaw) (how : Finish) → (getD s at 0 ≡ 0x20 → ⊥) → answer (exprAt depth v s (at + 1)) (at + 1) vars ≡ Evaluated.Fault k → how ≡ faulted k → StmtRun (h .what) at (h .next) q count vars labels (Body.Ended how count) vars labels
   unfolding step
-  emit-fault k how g a f = let w = emit-here v s at h g in rw f (ends (faulted k) (rw (w .is, faulty (w .reads) vars k a)))
+  emit-fault k how g a f = let w = emit-here v s at h g in rw f (ends (faulted k) (rw (w .is, faulty (w .reads) (at + 1) vars k a)))
 
 -- what a call of the evaluator asks
 module _ (v : ℕ) (s : List ℕ) (at : ℕ) (h : StmtHere v s at) where
@@ -228,7 +239,8 @@ pub record Rest (v : ℕ) (s : List ℕ) (at : ℕ) (h : BlockHere v s at) (q co
   pub targets : here .targets ≡ h .targets
   pub next : here .next ≡ h .next
   pub ending : here .what .ending ≡ h .what .ending
-  pub left : steps q (here .what .body) (valuesIn vars') (labelsIn n labels') ≡ steps q (h .what .body) (valuesIn vars) (labelsIn count labels)
+  pub passed : i + bodySize (here .what) ≡ at + bodySize (h .what)
+  pub left : steps q (here .what .body) (atByte i) (valuesIn vars') (labelsIn n labels') ≡ steps q (h .what .body) (atByte at) (valuesIn vars) (labelsIn count labels)
   pub within : n ≤ q
   pub room : q ≤ length labels'
   pub size : length labels' ≡ length labels
@@ -244,11 +256,14 @@ module _ {v : ℕ} {s : List ℕ} {at : ℕ} {h : BlockHere v s at} {q count : �
     stmt-next = stmt-follows v s i (R .here) l u .stmt
 
     -- the statements from here on: this one, and the others
-    split : steps q (R .here .what .body) (valuesIn vars') (labelsIn n labels') ≡ onward (step q (stmt-next .what) (valuesIn vars') (labelsIn n labels')) (λ env ls. steps q (stmt-follows v s i (R .here) l u .rest .what .body) env ls)
+    split : steps q (R .here .what .body) (atByte i) (valuesIn vars') (labelsIn n labels') ≡ onward (step q (stmt-next .what) (atByte i) (valuesIn vars') (labelsIn n labels')) (λ env ls. steps q (stmt-follows v s i (R .here) l u .rest .what .body) (atByte (stmt-next .next)) env ls)
     unfolding steps stmt-next
-    split = ap (λ (b : Block). steps q (b .body) (valuesIn vars') (labelsIn n labels')) (stmt-follows v s i (R .here) l u .is)
+    split =
+        let w = stmt-follows v s i (R .here) l u in
+        ap (λ (b : Block). steps q (b .body) (atByte i) (valuesIn vars') (labelsIn n labels')) (w .is)
+        ∙ ap (λ k. onward (step q (w .stmt .what) (atByte i) (valuesIn vars') (labelsIn n labels')) (λ env ls. steps q (w .rest .what .body) (atByte k) env ls)) (sym (stmt-size v s i (w .stmt)))
 
-    module _ {r : Body} {env out : List Word} (ran : (x : StmtHere v s i) → StmtRun (x .what) (x .next) q n vars' labels' r env out) where
+    module _ {r : Body} {env out : List Word} (ran : (x : StmtHere v s i) → StmtRun (x .what) i (x .next) q n vars' labels' r env out) where
       pub went-on : (p m : ℕ) → r ≡ Body.Ready p m → length out ≡ length labels' → (i < p) × Rest v s at h q count vars labels env out p m
       unfolding stmt-next
       went-on p m e size =
@@ -257,13 +272,14 @@ module _ {v : ℕ} {s : List ℕ} {at : ℕ} {h : BlockHere v s at} {q count : �
           let place : w .stmt .next ≡ p = sym (x .place p m refl) in
           let g = stmt-grows v s i (w .stmt) in
           let later : drop m out ≡ drop m labels = x .rest ∙ drop-further n m labels' labels (x .grows) (R .stays) in
-          let left : steps q (w .rest .what .body) (valuesIn env) (labelsIn m out) ≡ steps q (h .what .body) (valuesIn vars) (labelsIn count labels) = rw (← x .way) at (sym split) ∙ R .left in (
+          let left : steps q (w .rest .what .body) (atByte (w .stmt .next)) (valuesIn env) (labelsIn m out) ≡ steps q (h .what .body) (atByte at) (valuesIn vars) (labelsIn count labels) = rw (← x .way) at (sym split) ∙ R .left in (
             omega arith,
             subst (λ k. Rest v s at h q count vars labels env out k m) place (record {
               here = w .rest;
               targets = w .targets ∙ R .targets;
               next = w .next ∙ R .next;
               ending = sym (ap (λ (b : Block). b .ending) (w .is)) ∙ R .ending;
+              passed = omega (arith, stmt-size v s i (w .stmt), first-size (w .stmt .what) (w .rest .what), ap bodySize (w .is), R .passed);
               left = left;
               within = x .within;
               room = rw size (R .room);
@@ -275,13 +291,14 @@ module _ {v : ℕ} {s : List ℕ} {at : ℕ} {h : BlockHere v s at} {q count : �
       pub ended-there : (how : Finish) (m : ℕ) → r ≡ Body.Ended how m → BodyRun v s at h q count vars labels (Body.Ended how m) env out
       ended-there how m e =
           let x = rw e at (ran stmt-next) in
-          let way : ended how (labelsIn m out) ≡ steps q (h .what .body) (valuesIn vars) (labelsIn count labels) = rw (← x .way) at (sym split) ∙ R .left in
-          record { way = way; ending = λ p k q. let z : _≡_ {A = ℕ} 0 1 = cc in absurd (omega arith); within = x .within; rest = x .rest ∙ drop-further n m labels' labels (x .grows) (R .stays) }
+          let way : ended how (labelsIn m out) ≡ steps q (h .what .body) (atByte at) (valuesIn vars) (labelsIn count labels) = rw (← x .way) at (sym split) ∙ R .left in
+          record { way = way; ending = λ p k q. let z : _≡_ {A = ℕ} 0 1 = cc in absurd (omega arith); place = λ p k q. let z : _≡_ {A = ℕ} 0 1 = cc in absurd (omega arith); within = x .within; rest = x .rest ∙ drop-further n m labels' labels (x .grows) (R .stays) }
 
   -- ---- the end of the statements
   pub all-run : (getD s i 0 ≡ 0x20 → ⊥) → (getD s i 0 ≡ 0x21 → ⊥) → BodyRun v s at h q count vars labels (Body.Ready i n) vars' labels'
-  unfolding steps
+  unfolding steps inTurn
   all-run a c =
       let w = end-here v s i (R .here) a c in
-      let none : steps q (R .here .what .body) (valuesIn vars') (labelsIn n labels') ≡ on (valuesIn vars') (labelsIn n labels') = rw (w .1) in
-      record { way = sym none ∙ R .left; ending = λ p k e. moved v s _ _ _ _ _ _ i p (R .targets) (R .ending) (R .next) (cc) (w .0); within = R .within; rest = R .stays }
+      let size : bodySize (R .here .what) ≡ 0 = rw (w .1) in
+      let none : steps q (R .here .what .body) (atByte i) (valuesIn vars') (labelsIn n labels') ≡ on (valuesIn vars') (labelsIn n labels') = rw (w .1) in
+      record { way = sym none ∙ R .left; ending = λ p k e. moved v s _ _ _ _ _ _ i p (R .targets) (R .ending) (R .next) (cc) (w .0); place = λ p k e. let same : i ≡ p = cc in omega (arith, same, size, R .passed); within = R .within; rest = R .stays }

@@ -1,5 +1,5 @@
 -- What stands where a block runs, and the answers of its statements and its ending. Assumes nothing: these are definitions.
-use Prim.Native.Nat.{ℕ, _≤_, _<_}
+use Prim.Native.Nat.{ℕ, _+_, _≤_, _<_}
 use mathlib.Core.Path.{_≡_}
 use mathlib.Core.Bool.{Bool}
 use mathlib.Core.List.{List}
@@ -10,6 +10,8 @@ use Rattle.definitions.specs.declared.Flaw.{Flaw}
 use Rattle.definitions.specs.declared.Targets.{Targets}
 use Rattle.definitions.specs.Grammar.{got, endAt, blockFrom, levels}
 use Rattle.definitions.specs.Plan.{bitOf}
+use Rattle.definitions.specs.Spelling.{bodySize}
+use Rattle.definitions.specs.Meaning.{Where, atByte}
 use Rattle.definitions.specs.Direct.{stopped, faulted, Way, on, ended, step, steps, Exit, toBlock, toRound, toStop, exit, Round, jumped, finished, leave}
 use Rattle.rules.specs.Readings.{stmtAt}
 use Rattle.columns.specs.OnPlan.{kept}
@@ -71,9 +73,9 @@ abbrev pub countOf : Body → ℕ
 countOf (Body.Ready p k) = k
 countOf (Body.Ended how k) = k
 
--- the statement x, which ends at next, was run: the way, the place after it, room for the labels, and the words after them as they were
-pub record StmtRun (x : Stmt) (next q count : ℕ) (vars labels : List Word) (r : Body) (vars' labels' : List Word) : Type 0 where
-  pub way : wayOf r vars' labels' ≡ step q x (valuesIn vars) (labelsIn count labels)
+-- the statement x, which stands from at to next, was run: the way, the place after it, room for the labels, and the words after them as they were
+pub record StmtRun (x : Stmt) (at next q count : ℕ) (vars labels : List Word) (r : Body) (vars' labels' : List Word) : Type 0 where
+  pub way : wayOf r vars' labels' ≡ step q x (atByte at) (valuesIn vars) (labelsIn count labels)
   pub place : (p k : ℕ) → r ≡ Body.Ready p k → p ≡ next
   pub grows : count ≤ countOf r
   pub within : countOf r ≤ q
@@ -81,8 +83,9 @@ pub record StmtRun (x : Stmt) (next q count : ℕ) (vars labels : List Word) (r 
 
 -- all statements of a block were run: likewise, and the place after them is the ending's
 pub record BodyRun (v : ℕ) (s : List ℕ) (at : ℕ) (h : BlockHere v s at) (q count : ℕ) (vars labels : List Word) (r : Body) (vars' labels' : List Word) : Type 0 where
-  pub way : wayOf r vars' labels' ≡ steps q (h .what .body) (valuesIn vars) (labelsIn count labels)
+  pub way : wayOf r vars' labels' ≡ steps q (h .what .body) (atByte at) (valuesIn vars) (labelsIn count labels)
   pub ending : (p k : ℕ) → r ≡ Body.Ready p k → endAt levels (h .targets) v s p ≡ got (h .what .ending) (h .next)
+  pub place : (p k : ℕ) → r ≡ Body.Ready p k → p ≡ at + bodySize (h .what)
   pub within : countOf r ≤ q
   pub rest : drop (countOf r) labels' ≡ drop (countOf r) labels
 
@@ -106,13 +109,13 @@ labelsOf (Passage.Goto t k) = k
 labelsOf (Passage.Jump t k) = k
 labelsOf (Passage.Ended how k) = k
 
--- a block is left: its ending sees all that the block has, and what it leads to gets the variables of a set
-abbrev pub leftBy : ℕ → (ℕ → Bool) → Way → End → (ℕ → List Val → List Val → Round) → Round
-leftBy v out (on env ls) e W = leave (exit e env) (kept v out env) ls (λ t. W t (kept v out env) ls)
-leftBy v out (ended how ls) e W = finished how ls
+-- a block is left: its ending, which stands at p, sees all that the block has, and what it leads to gets the variables of a set
+abbrev pub leftBy : ℕ → (ℕ → Bool) → Way → End → Where → (ℕ → List Val → List Val → Round) → Round
+leftBy v out (on env ls) e p W = leave (exit e p env) (kept v out env) ls (λ t. W t (kept v out env) ls)
+leftBy v out (ended how ls) e p W = finished how ls
 
 -- the block of an entry was run, entered with the variables of one mask and left with those of another
 pub record BlockRun (v : ℕ) (s : List ℕ) (e : Entry) (h : BlockHere v s (e .place)) (q count : ℕ) (vars labels : List Word) (r : Passage) (vars' labels' : List Word) : Type 0 where
-  pub round : (W : ℕ → List Val → List Val → Round) → roundOf r vars' labels' W ≡ leftBy v (bitOf (e .outputs)) (steps q (h .what .body) (kept v (bitOf (e .inputs)) (valuesIn vars)) (labelsIn count labels)) (h .what .ending) W
+  pub round : (W : ℕ → List Val → List Val → Round) → roundOf r vars' labels' W ≡ leftBy v (bitOf (e .outputs)) (steps q (h .what .body) (atByte (e .place)) (kept v (bitOf (e .inputs)) (valuesIn vars)) (labelsIn count labels)) (h .what .ending) (atByte (e .place + bodySize (h .what))) W
   pub within : labelsOf r ≤ q
   pub rest : drop (labelsOf r) labels' ≡ drop (labelsOf r) labels

@@ -18,6 +18,7 @@ ghost use Prim.Native.Nat.{_≤_};
 ghost use lib.ListN.{length};
 ghost use Rattle.definitions.specs.Values.{valuesIn};
 ghost use Rattle.definitions.specs.Plan.{bitOf};
+ghost use Rattle.definitions.specs.Meaning.{atByte};
 ghost use Rattle.definitions.specs.Direct.{exit};
 ghost use Rattle.columns.specs.OnPlan.{kept};
 ghost use Rattle.evaluators.specs.Answer.{Sized};
@@ -35,7 +36,7 @@ pub enum Leading {
 
 pub fn run_end(s: &Rule, at: usize, v: u8, left: u8, vars: &Vars) -> Leading
     requires { ⌜ Sized v (now s) × EndHere left v (now s) at ⌝ }
-    ensures { λ r. ⌜ ((h : EndHere left v (now (s .entry)) at) → r ≡ leadingOf (exit (h .ending) (valuesIn (now (vars .entry))))) ⌝ }
+    ensures { λ r. ⌜ ((h : EndHere left v (now (s .entry)) at) → r ≡ leadingOf (exit (h .ending) (atByte at) (valuesIn (now (vars .entry))))) ⌝ }
 {
     let tag = s[at];
     let next = at + 1;
@@ -85,7 +86,7 @@ fn step(
 ) -> Body
     requires { ⌜ Sized v (now s) × StmtHere v (now s) at ⌝ }
     requires { ⌜ (count ≤ quota) × (quota ≤ length (now labels)) ⌝ }
-    ensures { λ r. ⌜ ((h : StmtHere v (now (s .entry)) at) → StmtRun (h .what) (h .next) quota count (now (vars .entry)) (now (labels .entry)) r (now (vars .exit)) (now (labels .exit))) ⌝ }
+    ensures { λ r. ⌜ ((h : StmtHere v (now (s .entry)) at) → StmtRun (h .what) at (h .next) quota count (now (vars .entry)) (now (labels .entry)) r (now (vars .exit)) (now (labels .exit))) ⌝ }
 {
     let tag = s[at];
     let next = at + 1;

@@ -1,27 +1,30 @@
 -- Which bytes are which rule, said without the reader: a rule's bytes are those that its tree is written in, and every tree within the limits is one.
 -- Assumes that every byte is below 256, where a reading is given.
-use Prim.Native.Nat.{ℕ, _+_, _≤_}
+use Prim.Native.Nat.{ℕ, _≤_}
 use native.Mathlib.Omega.{arith}
 use mathlib.Core.Path.{_≡_, refl, sym, ap, _∙_}
 use mathlib.Core.Logic.{_↔_}
-use mathlib.Core.List.{List, _++_}
-use lib.ListN.{length, take, drop, take-append-drop}
+use mathlib.Core.List.{List}
+use lib.ListN.{length}
 use Rattle.definitions.specs.Rule.{Rule, size}
 use Rattle.definitions.specs.Grammar.{Got, got, then, ruleOf, longest}
-use Rattle.definitions.specs.Plan.{placeOf, endOf}
 use Rattle.definitions.specs.Pages.{fileOf, unpacked}
 use Rattle.definitions.specs.Calls.{toRead, toWrite, Wrote}
 use Rattle.definitions.specs.Spelling.{inTurn, blockBytes, bytesOf}
+use Rattle.definitions.specs.Values.{Val}
+use Rattle.definitions.specs.Direct.{start, after}
+use Rattle.definitions.specs.Faulting.{Among, Tells}
 use Rattle.definitions.specs.Limits.{Every, BlockKeeps, Limits}
 use Rattle.definitions.specs.declared.Reply.{Reply}
 use Rattle.definitions.specs.declared.Reply.the-variants.{Done}
+use Rattle.definitions.proofs.Faults.{run-tells}
 use Rattle.pages.proofs.Trip.{Bytes, read-write}
 use Rattle.rules.specs.Replies.{Make, OfRule, bad, short, done, OfFile, page, holds, ToWrite, long, may}
 use Rattle.rules.specs.Spelling.{Accepts}
 use Rattle.rules.proofs.Accepted.{rule-in, gotos-rise}
 use Rattle.rules.proofs.Places.{rule-blocks, rule-end, rule-header}
-use Rattle.rules.proofs.Spelt.{in-turn-append, Spelt, parted, spelt-end, spelt-whole, spelt-self, spelt-as}
-use Rattle.rules.proofs.SpeltRead.{blocks-give, rule-gives}
+use Rattle.rules.proofs.Spelt.{Spelt, spelt-whole}
+use Rattle.rules.proofs.SpeltRead.{rule-gives}
 use Rattle.rules.proofs.SpeltSmall.{rule-small}
 use Rattle.rules.proofs.ReadSpelt.{blocks-spelt}
 use Rattle.rules.proofs.Promises.{file-exactly, write-exactly}
@@ -73,15 +76,9 @@ one-reading r r′ l l′ e = let p = rule-gives r l in let q = rule-gives r′ 
 pub one-writing : (s s′ : List ℕ) → Bytes s → Bytes s′ → (r : Rule) (n n′ : ℕ) → ruleOf s ≡ got r n → ruleOf s′ ≡ got r n′ → s ≡ s′
 one-writing s s′ b b′ r n n′ e e′ = read-bytes s r n e b ∙ sym (read-bytes s′ r n′ e′ b′)
 
--- a block stands after the header and all blocks before it
-pub place-is : (r : Rule) → Limits r → (b : ℕ) → b ≤ size r → placeOf r (bytesOf r) b ≡ 4 + length (inTurn blockBytes (take b (r .blocks)))
-unfolding bytesOf
-place-is r lim b l =
-    let s = bytesOf r in
-    let first = inTurn blockBytes (take b (r .blocks)) in
-    let parts : inTurn blockBytes (r .blocks) ≡ first ++ inTurn blockBytes (drop b (r .blocks)) = ap (inTurn blockBytes) (sym (take-append-drop b (r .blocks))) ∙ in-turn-append blockBytes (take b (r .blocks)) (drop b (r .blocks)) in
-    let p = parted s first (inTurn blockBytes (drop b (r .blocks))) 4 (length s) (spelt-as s _ _ 4 (length s) (sym parts) (spelt-self s .2 .2 .2 .2)) in
-    ap endOf (blocks-give s r lim b (p .0) l (p .1)) ∙ spelt-end s first 4 (p .0) (p .1)
+-- 02, K4: of accepted bytes, a row tells where the operator at fault stands in them, and 0 if none is
+pub row-tells : (s : List ℕ) → Bytes s → (r : Rule) (n : ℕ) → ruleOf s ≡ got r n → (q rounds : ℕ) (args : List Val) → Tells (Among 0 s) (after r q rounds (start r args) .finish)
+row-tells s small r n e q rounds args = rw (read-bytes s r n e small) (run-tells r q rounds args)
 
 -- ---- the calls
 module _ (make : Make) (s : List ℕ) (room n : ℕ) where

@@ -55,10 +55,6 @@ module _ (s : List ℕ) where
   pub spelt-as : (xs ys : List ℕ) (at n : ℕ) → xs ≡ ys → Spelt s at ys n → Spelt s at xs n
   spelt-as xs ys at n e h = rw e h
 
-  pub spelt-end : (xs : List ℕ) (at n : ℕ) → Spelt s at xs n → n ≡ at + length xs
-  spelt-end [] at n h = omega arith
-  spelt-end (x ∷ xs) at n h = omega (arith, spelt-end xs (at + 1) n (h .2))
-
   -- what is left of s
   spelt-drop : (xs : List ℕ) (at n : ℕ) → Spelt s at xs n → drop at s ≡ xs ++ drop n s
   spelt-drop [] at n h = rw h

@@ -63,7 +63,7 @@ module _ (r : Rule) (values : List Word) where
   zeros : (q n : ℕ) → recordOf q (startAt r values n) ≡ replicate (recordSize q) (pos 0)
   zeros q n =
       let e : q - 0 ≡ q = omega arith in
-      let f : suc (suc (suc q)) ≡ recordSize q = omega arith in
+      let f : suc (suc (suc (suc q))) ≡ recordSize q = omega arith in
       rw e (ap (λ (m : ℕ). replicate m (pos 0)) f)
 
   starts-records : (q n : ℕ) → recordsOf q (startsOf r values n) ≡ replicate (n * recordSize q) (pos 0)

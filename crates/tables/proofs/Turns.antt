@@ -11,7 +11,7 @@ use Rattle.definitions.specs.Values.{Word, valuesIn, wordsOf}
 use Rattle.definitions.specs.Rule.{Rule}
 use Rattle.definitions.specs.Columns.{flowOf, LC}
 use Rattle.definitions.specs.Plan.{bitOf}
-use Rattle.definitions.specs.Direct.{State, Round, jumped, finished, joined, advance, after, goesOn}
+use Rattle.definitions.specs.Direct.{State, Round, jumped, finished, joined, advance, afterFrom, after, goesOn}
 use Rattle.definitions.specs.Batch.{recordSize, recordOf, countTo, lineSize, columnsOf}
 use Rattle.definitions.specs.Finder.{mostRows, mostColumns}
 use Rattle.definitions.specs.Calls.{mostBudget}
@@ -45,7 +45,7 @@ module _ (r : Rule) (q : ℕ) where
       go false e = rw (advance-done r q s e) (omega arith)
 
   after-more : (n : ℕ) (s : State) → s .begun ≤ after r q n s .begun
-  unfolding after
+  unfolding afterFrom
   after-more zero s = omega arith
   after-more (suc n) s = omega (arith, after-more n s, advance-more (after r q n s))
 
@@ -98,7 +98,7 @@ module _ {r : Rule} {l : Layout} {from : ℕ} {out work : List Word} (kn : Known
 
     -- the record
     module _ (at : ℕ) (ea : at ≡ row .row * recordSize q) (out' : List Word)
-        (eo : out' ≡ over out at (pos (c .finish .status) ∷ pos (row .begun + c .rounds) ∷ pos (c .count) ∷ (take (c .count) labels ++ replicate (q - c .count) (pos 0)))) where
+        (eo : out' ≡ over out at (pos (c .finish .status) ∷ pos (row .begun + c .rounds) ∷ pos (c .count) ∷ pos (c .finish .place) ∷ (take (c .count) labels ++ replicate (q - c .count) (pos 0)))) where
       its-record : out' ≡ over out (k .row * recordSize q) (recordOf q s')
       its-record =
           let ls : take (c .count) labels ≡ wordsOf (s' .labels) = sym (words-again (take (c .count) labels)) ∙ ap wordsOf (w .labels') in

@@ -1,4 +1,4 @@
--- The rows of a batch in its two buffers, as the code finds and leaves them. EachRow of these holds for every rows that stand there.
+-- The rows of a batch in its two buffers, as the code finds and leaves them. Each of these holds for every rows that stand there.
 use Prim.Native.Nat.{ℕ, _+_, _*_, _≤_}
 use mathlib.Core.Path.{_≡_}
 use mathlib.Core.Bool.{true, cond}

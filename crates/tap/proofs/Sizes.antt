@@ -10,7 +10,7 @@ use lib.ListN.{length, length-append, length-take, length-drop}
 use borrow.Author.Tests.{ltb-false}
 use Rattle.definitions.specs.Rule.{Rule, size}
 use Rattle.definitions.specs.Values.{Word}
-use Rattle.definitions.specs.Direct.{State, goesOn, Round, jumped, finished, walk, joined, advance, after}
+use Rattle.definitions.specs.Direct.{State, goesOn, Round, jumped, finished, origin, walk, joined, advanceFrom, advance, afterFrom, after}
 use Rattle.definitions.specs.Batch.{recordSize, lineSize, startAt, startsOf, statesOf, mostOf}
 use Rattle.definitions.specs.Grammar.{Got, got, refused, then, ruleOf, longest}
 use Rattle.definitions.specs.Pages.{mostPages, pageSize, lengthIn, checkIn, checkOf, pageIn, payloadOf, lengthOk, fillerOk, sizeOk, pageAt, payloadTo, unpacked, fileOf}
@@ -129,8 +129,8 @@ compile-within file =
 
 module _ (r : Rule) (q : ℕ) where
   one-more : (s : State) → advance r q s .begun ≤ s .begun + 1
-  unfolding advance
-  one-more s = go (goesOn (s .finish)) (walk (size r) r q (s .block) (s .vars) (s .labels))
+  unfolding advanceFrom
+  one-more s = go (goesOn (s .finish)) (walk (size r) origin r q (s .block) (s .vars) (s .labels))
     where
       go : (b : Bool) (w : Round) → cond b (joined s w) s .begun ≤ s .begun + 1
       go true (jumped t env ls) = omega arith
@@ -138,7 +138,7 @@ module _ (r : Rule) (q : ℕ) where
       go false w = omega arith
 
   began : (n : ℕ) (s : State) → after r q n s .begun ≤ s .begun + n
-  unfolding after
+  unfolding afterFrom
   began zero s = omega arith
   began (suc n) s = omega (arith, one-more (after r q n s), began n s)
 

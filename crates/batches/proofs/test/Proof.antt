@@ -1,4 +1,4 @@
--- EachRow test of the code is one of the definition's, in its order. Assumes nothing.
+-- Each test of the code is one of the definition's, in its order. Assumes nothing.
 use Prim.Native.Nat.{_*_}
 use mathlib.Core.Path.{_∙_}
 use native.Mathlib.Omega.{arith}

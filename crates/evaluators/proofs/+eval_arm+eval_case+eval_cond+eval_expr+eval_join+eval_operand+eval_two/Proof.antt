@@ -3,6 +3,7 @@
 -- there. Each return, and what each call requires, is a law of `Evaluating` at what the callees say. Assumes nothing.
 use Prim.Native.Nat.{ℕ, _+_, _*_, _<_, _≤_}
 use mathlib.Core.Logic.{⊎-elim}
+use mathlib.Core.Path.{refl}
 use lib.ListN.{length, getD}
 use native.Mathlib.Omega.{arith}
 use borrow.Author.Needs.{needs}
@@ -176,16 +177,16 @@ module _ (t : ℕ) where
       (omega arith, (start .pre .1 .0, laws.case-next (a .left) (a .v) (a .s .now) (a .at) (a .vars .now) (start .pre .1 .1) _ _ (told (first .eval-cond .ensures) (h .h .given .1))))
 
   eval-case-returns : eval-case-lts.Need-returns eval-case-calls eval-case-at eval-case.Post
-  eval-case-returns c =
+  eval-case-returns c p i =
       let k = c .before in
       let first = k .before .before in
-      laws.case-fault _ _ _ _ _ (first .before .pre .1 .1) _ (told (first .eval-cond .ensures) (k .k .given .1))
+      laws.case-fault _ _ _ _ _ (first .before .pre .1 .1) _ p i (told (first .eval-cond .ensures) (k .k .given .1))
 
   eval-case-returns-2 : eval-case-lts.Need-returns-2 eval-case-calls eval-case-at eval-case.Post
-  eval-case-returns-2 c =
+  eval-case-returns-2 c p i =
       let h = c .before .before in
       let first = h .before .before in
-      laws.case-value _ _ _ _ _ (first .before .pre .1 .1) _ _ _ (told (first .eval-cond .ensures) (h .h .given .1)) (c .eval-arm .ensures)
+      laws.case-value _ _ _ _ _ (first .before .pre .1 .1) _ _ _ p i (told (first .eval-cond .ensures) (h .h .given .1)) (c .eval-arm .ensures)
 
   -- ---- eval_cond
   cond-there :
@@ -276,7 +277,7 @@ module _ (t : ℕ) where
       let m = c .before in
       let start = m .before .before .before in
       let a = start .args in
-      rw (laws.cond-join (a .left) (a .v) (a .s .now) (a .at) (start .pre .1 .1) (joint m .0) (joint m .1)) (c .eval-join .ensures)
+      rw (laws.cond-join (a .left) (a .v) (a .s .now) (a .at) (start .pre .1 .1) (joint m .0) (joint m .1)) (c .eval-join .ensures (a .at) refl)
 
   -- ---- eval_expr
   -- a tag stands there, and a level is left
@@ -305,6 +306,9 @@ module _ (t : ℕ) where
 
   eval-expr-sub-less : eval-expr-lts.Need-sub-less eval-expr-calls eval-expr-at eval-expr.Post
   eval-expr-sub-less c = omega (arith, expr-there (c .before) .2)
+
+  eval-expr-cast-place : eval-expr-lts.Need-cast-place eval-expr-calls eval-expr-at eval-expr.Post
+  eval-expr-cast-place c = omega (arith, expr-there (c .before) .0)
 
   eval-expr-eval-const-requires : eval-expr-lts.Need-eval-const-requires eval-expr-calls eval-expr-at eval-expr.Post
   eval-expr-eval-const-requires c κs =
@@ -376,7 +380,7 @@ module _ (t : ℕ) where
       let m = c .before in
       let start = m .before .before in
       let a = start .args in
-      laws.case-answer (a .left) (a .v) (a .s .now) (a .at) (start .pre .1 .1) _ _ (m .match .keys4) (c .eval-case .ensures)
+      laws.case-answer (a .left) (a .v) (a .s .now) (a .at) (start .pre .1 .1) _ _ (m .match .keys4) (c .eval-case .ensures (a .at) refl)
 
   eval-expr-returns-6 : eval-expr-lts.Need-returns-6 eval-expr-calls eval-expr-at eval-expr.Post
   eval-expr-returns-6 c =
@@ -412,25 +416,25 @@ module _ (t : ℕ) where
       (omega arith, (start .pre .1 .0 .0, laws.join-next (a .left) (a .v) (a .s .now) (a .at) (a .vars .now) _ (start .pre .1 .0 .1) _ _ (told (first .eval-cond .ensures) (h .h .given .1))))
 
   eval-join-returns : eval-join-lts.Need-returns eval-join-calls eval-join-at eval-join.Post
-  eval-join-returns c =
+  eval-join-returns c p i =
       let k = c .before in
       let first = k .before .before in
-      laws.join-fault _ _ _ _ _ _ (first .before .pre .1 .0 .1) _ (told (first .eval-cond .ensures) (k .k .given .1))
+      laws.join-fault _ _ _ _ _ _ (first .before .pre .1 .0 .1) _ p i (told (first .eval-cond .ensures) (k .k .given .1))
 
   eval-join-returns-2 : eval-join-lts.Need-returns-2 eval-join-calls eval-join-at eval-join.Post
-  eval-join-returns-2 c =
+  eval-join-returns-2 c p i =
       let done = c .before .before in
       let h = done .before .before in
       let first = h .before .before in
       rw (c .skip .ensures)
-      (laws.join-left _ _ _ _ _ _ (first .before .pre .1 .0 .1) _ _ (told (first .eval-cond .ensures) (h .h .given .1)) (told (done .decides .ensures) (c .before .if1 .taken)))
+      (laws.join-left _ _ _ _ _ _ (first .before .pre .1 .0 .1) _ _ p i (told (first .eval-cond .ensures) (h .h .given .1)) (told (done .decides .ensures) (c .before .if1 .taken)))
 
   eval-join-returns-3 : eval-join-lts.Need-returns-3 eval-join-calls eval-join-at eval-join.Post
-  eval-join-returns-3 c =
+  eval-join-returns-3 c p i =
       let done = c .before .before in
       let h = done .before .before in
       let first = h .before .before in
-      laws.join-right _ _ _ _ _ _ (first .before .pre .1 .0 .1) _ _ _ (told (first .eval-cond .ensures) (h .h .given .1)) (told (done .decides .ensures) (c .before .if1 .left)) (c .eval-cond2 .ensures)
+      laws.join-right _ _ _ _ _ _ (first .before .pre .1 .0 .1) _ _ _ p i (told (first .eval-cond .ensures) (h .h .given .1)) (told (done .decides .ensures) (c .before .if1 .left)) (c .eval-cond2 .ensures)
 
   -- ---- eval_operand
   operand-there :
@@ -528,7 +532,7 @@ pub +eval-arm+eval-case+eval-cond+eval-expr+eval-join+eval-operand+eval-two-spec
     (λ t. eval-arm-lts.spec (eval-arm-calls t) (eval-arm-at t) eval-arm.Post (eval-arm-eval-expr-requires t) (λ c. search needs) (λ c. search needs) (λ c κs. search needs) (λ c κs. search needs) (eval-arm-eval-expr-requires-2 t) (eval-arm-returns t) (eval-arm-returns-2 t) (eval-arm-returns-3 t))
     (λ t. eval-case-lts.spec (eval-case-calls t) (eval-case-at t) eval-case.Post (eval-case-eval-cond-requires t) (λ c. search needs) (λ c. search needs) (eval-case-eval-arm-requires t) (eval-case-returns t) (eval-case-returns-2 t))
     (λ t. eval-cond-lts.spec (eval-cond-calls t) (eval-cond-at t) eval-cond.Post (eval-cond-element-copy-out-tag t) (eval-cond-add-next t) (eval-cond-sub-less t) (eval-cond-eval-cond-requires t) (λ c. search needs) (λ c. search needs) (eval-cond-eval-two-requires t) (λ c. search needs) (eval-cond-compare-requires t) (λ c. search needs) (eval-cond-eval-join-requires t) (eval-cond-returns t) (eval-cond-returns-2 t) (eval-cond-returns-3 t) (eval-cond-returns-4 t) (eval-cond-returns-5 t))
-    (λ t. eval-expr-lts.spec (eval-expr-calls t) (eval-expr-at t) eval-expr.Post (eval-expr-element-copy-out-tag t) (eval-expr-add-next t) (eval-expr-sub-less t) (eval-expr-eval-const-requires t) (eval-expr-eval-var-requires t) (eval-expr-eval-expr-requires t) (λ c. search needs) (λ c κs. search needs) (λ c. search needs) (eval-expr-eval-case-requires t) (eval-expr-eval-two-requires t) (λ c. search needs) (eval-expr-operate-at-requires t) (λ c. search needs) (eval-expr-returns t) (eval-expr-returns-2 t) (eval-expr-returns-3 t) (eval-expr-returns-4 t) (eval-expr-returns-5 t) (eval-expr-returns-6 t) (eval-expr-returns-7 t))
+    (λ t. eval-expr-lts.spec (eval-expr-calls t) (eval-expr-at t) eval-expr.Post (eval-expr-element-copy-out-tag t) (eval-expr-add-next t) (eval-expr-sub-less t) (eval-expr-cast-place t) (eval-expr-eval-const-requires t) (eval-expr-eval-var-requires t) (eval-expr-eval-expr-requires t) (λ c. search needs) (λ c κs. search needs) (λ c. search needs) (eval-expr-eval-case-requires t) (eval-expr-eval-two-requires t) (λ c. search needs) (eval-expr-operate-at-requires t) (λ c. search needs) (eval-expr-returns t) (eval-expr-returns-2 t) (eval-expr-returns-3 t) (eval-expr-returns-4 t) (eval-expr-returns-5 t) (eval-expr-returns-6 t) (eval-expr-returns-7 t))
     (λ t. eval-join-lts.spec (eval-join-calls t) (eval-join-at t) eval-join.Post (eval-join-eval-cond-requires t) (λ c. search needs) (λ c. search needs) (eval-join-decides-requires t) (λ c κs. search needs) (eval-join-eval-cond-requires-2 t) (eval-join-returns t) (eval-join-returns-2 t) (eval-join-returns-3 t))
     (λ t. eval-operand-lts.spec (eval-operand-calls t) (eval-operand-at t) eval-operand.Post (eval-operand-element-copy-out-tag t) (eval-operand-add-next t) (eval-operand-eval-const-requires t) (eval-operand-eval-var-requires t) (eval-operand-eval-expr-requires t) (eval-operand-returns t) (eval-operand-returns-2 t) (eval-operand-returns-3 t))
     λ t. eval-two-lts.spec (eval-two-calls t) (eval-two-at t) eval-two.Post (eval-two-eval-operand-requires t) (λ c. search needs) (λ c. search needs) (eval-two-eval-operand-requires-2 t) (λ c. search needs) (λ c. search needs) (eval-two-returns t) (eval-two-returns-2 t) (eval-two-returns-3 t)

@@ -1,4 +1,4 @@
--- Three stores, the labels and zeros make up a record. Assumes nothing.
+-- Four stores, the labels and zeros make up a record. Assumes nothing.
 use Prim.Native.Nat.{_-_}
 use mathlib.Core.Path.{_≡_, _∙_}
 use native.Mathlib.Omega.{arith}
@@ -15,6 +15,9 @@ slice-set-from-out-2 c = simp length-set (omega arith)
 slice-set-from-out-3 : tie.Need-slice-set-from-out-3
 slice-set-from-out-3 c = simp length-set (omega arith)
 
+slice-set-from-out-4 : tie.Need-slice-set-from-out-4
+slice-set-from-out-4 c = simp length-set (omega arith)
+
 copy-at-requires : tie.Need-copy-at-requires
 copy-at-requires c κs = simp length-set (omega (arith, length-take (c .before .before .before .args .count - 0) (c .before .before .before .args .labels .now)))
 
@@ -29,7 +32,7 @@ returns c =
     let at-copy = c .before .before .before .before in
     let a = at-copy .before .before .before .before .args in
     let e : a .count - 0 ≡ a .count = omega arith in
-    record-law (a .out .now) (a .at) (a .finish .status) (a .begun) (a .count) 0 (take (a .count) (a .labels .now)) _ (at-copy .copy-at .last .0) (c .before .clear-at .last .0) (omega arith) (omega arith) (omega arith) (length-take-le (a .count) (a .labels .now) (omega arith)) (omega arith)
+    record-law (a .out .now) (a .at) (a .finish .status) (a .begun) (a .count) (a .finish .place) (take (a .count) (a .labels .now)) _ (at-copy .copy-at .last .0) (c .before .clear-at .last .0) (omega arith) (omega arith) (omega arith) (omega arith) (length-take-le (a .count) (a .labels .now) (omega arith)) (omega arith)
     (rw e at (at-copy .copy-at .ensures)) (c .before .clear-at .ensures)
 
 pub put-record-spec : {M : Type 1} → statement M
@@ -47,6 +50,10 @@ put-record-spec =
     (λ c. search needs)
     (λ c. search needs)
     slice-set-from-out-3
+    (λ c. search needs)
+    (λ c. search needs)
+    (λ c. search needs)
+    slice-set-from-out-4
     (λ c. search needs)
     (λ c. search needs)
     (λ c. search needs)

@@ -22,7 +22,7 @@ abbrev rest : (l : tie.At-loop Inv-loop μ-loop) → let a = l .before .args in 
 rest l = l .loop .inv (l .before .pre .0 .1)
 
 loop-holds : tie.Need-loop-holds Inv-loop μ-loop
-loop-holds c = λ h. record { here = h; targets = refl; next = refl; ending = refl; left = refl; within = c .pre .1 .0; room = c .pre .1 .1; size = refl; stays = refl }
+loop-holds c = λ h. record { here = h; targets = refl; next = refl; ending = refl; passed = refl; left = refl; within = c .pre .1 .0; room = c .pre .1 .1; size = refl; stays = refl }
 
 element-copy-out-tag : tie.Need-element-copy-out-tag Inv-loop μ-loop
 element-copy-out-tag c = omega (arith, laws.rest-there (rest c), c .before .pre .0 .0 .1)
