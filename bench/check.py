@@ -37,15 +37,20 @@ def run_plain(plain_run, run):
     rule = run.plan[:HEADER_SIZE] + run.plan[body_offset(run.plan[3]):]
     result, working = (ctypes.c_int * run.result_room)(), (ctypes.c_int * run.working_room)()
     values = (ctypes.c_int * len(run.values))(*run.values)
-    rounds = plain_run(rule, len(rule), loop_mask(rule), run.rows, values, run.budget, run.quota,
+    rounds = plain_run(rule, len(rule), loop_mask(rule), run.rows, values, run.budgets, run.quota,
                        result, working)
     return rounds, list(result), list(working)
 
 
 def run_second(run):
     result, working = [0] * run.result_room, [0] * run.working_room
-    rounds = calls.run(run.plan, run.rows, run.values, run.budget, run.quota, result, working)
+    rounds = calls.run(run.plan, run.rows, run.values, run.budgets, run.quota, result, working)
     return rounds, result, working
+
+
+def with_common(run):
+    """The baseline has no budgets but a common one: of the rows' own the greatest."""
+    return run if isinstance(run.budgets, int) else run._replace(budgets=max(run.budgets, default=0))
 
 
 def bench_run(rule, budget):
@@ -60,7 +65,7 @@ def main():
         sys.exit("bench/rules.h is not what bench/rules.py makes")
     dice = Dice(1)
     runs = [bench_run(rule, budget) for rule in RULES.values() for budget in BUDGETS]
-    runs += [make(dice) for make in (few_rows, corner_rows) for _ in range(DICE_RUNS // 2)]
+    runs += [with_common(make(dice)) for make in (few_rows, corner_rows) for _ in range(DICE_RUNS // 2)]
     with tempfile.TemporaryDirectory() as folder:
         plain_run = load_plain(folder)
         for run in runs:

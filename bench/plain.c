@@ -210,10 +210,11 @@ static void find_blocks(const unsigned char *rule, unsigned len, const unsigned 
 }
 
 /* Adds an unfinished row's line to the loop table and gives the place of the next line. */
-static int *put_line(int *line, unsigned number, unsigned block, const int *store, unsigned lc_mask)
+static int *put_line(int *line, unsigned number, unsigned block, unsigned rounds, const int *store, unsigned lc_mask)
 {
     *line++ = (int)number;
     *line++ = (int)block;
+    *line++ = (int)rounds;
     for (unsigned variable = 0; variable < MOST_VARIABLES; variable++)
         if (lc_mask >> variable & 1)
             *line++ = store[variable];
@@ -248,7 +249,7 @@ unsigned plain_run(const unsigned char *rule, unsigned len, unsigned lc_mask, un
         if (row.fault)
             record[TAP_FAULT_PLACE] = (int)(row.fault_at - rule);
         if (status == UNFINISHED)
-            line = put_line(line, number, block, row.store, lc_mask);
+            line = put_line(line, number, block, rounds, row.store, lc_mask);
         if (rounds > most_rounds)
             most_rounds = rounds;
     }

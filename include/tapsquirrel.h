@@ -25,9 +25,12 @@ extern "C" {
 /* A record's words before its labels, and how many they are. */
 enum { TAP_STATUS, TAP_ROUNDS, TAP_LABEL_COUNT, TAP_FAULT_PLACE, TAP_RECORD_HEAD };
 
+/* A line's words before its columns, and how many they are. */
+enum { TAP_LINE_ROW, TAP_LINE_BLOCK, TAP_LINE_ROUNDS, TAP_LINE_HEAD };
+
 /* The words of a row's record, and of its line under a plan with so many columns (tap_columns). */
 #define TAP_RECORD_WORDS(quota) (TAP_RECORD_HEAD + (quota))
-#define TAP_LINE_WORDS(columns) (2 + (columns))
+#define TAP_LINE_WORDS(columns) (TAP_LINE_HEAD + (columns))
 
 /* What no batch and no plan exceeds. */
 #define TAP_MOST_ROWS 256
@@ -41,7 +44,7 @@ enum { TAP_STATUS, TAP_ROUNDS, TAP_LABEL_COUNT, TAP_FAULT_PLACE, TAP_RECORD_HEAD
  *  4 header value           5 tag not allowed        6 no such variable
  *  7 target not allowed     8 too deep               9 rule ends early
  * 10 bytes after the rule  11 rule too long         12 buffer too short (place 0 first, 1 working)
- * 13 rows or values        14 budget or quota       15 not a plan
+ * 13 rows, values, budgets 14 budget or quota       15 not a plan
  * docs/USING.md says what to do about each.
  */
 static inline uint32_t tap_refusal(uint64_t answer) { return (uint32_t)(answer >> 32); }
@@ -66,14 +69,22 @@ uint64_t tap_columns(const uint8_t *plan, size_t plan_len);
  * A row's record goes to out, TAP_RECORD_WORDS(quota) words: status (0 unfinished, 1 stopped, 2 zero divisor,
  * 3 out of range, 4 quota), rounds, number of labels, the fault's place, labels, zeros. The fault's place is, for
  * status 2 and 3, the offset in the rule, its header included, of the operator that faulted; otherwise 0. An
- * unfinished row's line goes to work, TAP_LINE_WORDS(columns) words: row, next block, the plan's loop columns.
+ * unfinished row's line goes to work, TAP_LINE_WORDS(columns) words: row, next block, rounds, the plan's loop columns.
  * Value: the most rounds of any row.
  */
 uint64_t tap_run(const uint8_t *plan, size_t plan_len, uint32_t rows, const int32_t *values, size_t values_len,
                  uint32_t budget, uint32_t quota, int32_t *out, size_t out_len, int32_t *work, size_t work_len);
 
 /*
- * Where a row of a batch lies in the buffers of tap_run: its record, or while it is unfinished its line.
+ * As tap_run, with a budget for each row: budgets_len is to be the number of rows, or else the answer is 13.
+ * A 14 for a budget has the lowest such row as its place; one for the quota comes first, with place 0.
+ */
+uint64_t tap_run_each(const uint8_t *plan, size_t plan_len, uint32_t rows, const int32_t *values, size_t values_len,
+                      const uint32_t *budgets, size_t budgets_len, uint32_t quota, int32_t *out, size_t out_len,
+                      int32_t *work, size_t work_len);
+
+/*
+ * Where a row of a batch lies in the buffers of a run: its record, or while it is unfinished its line.
  * Upper half: TAP_IN_RESULT, TAP_IN_WORK or TAP_NOWHERE; value: the first word there.
  */
 enum { TAP_NOWHERE, TAP_IN_RESULT, TAP_IN_WORK };

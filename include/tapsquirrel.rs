@@ -12,6 +12,10 @@ mod c {
             plan: *const u8, plan_len: usize, rows: u32, values: *const i32, values_len: usize, budget: u32,
             quota: u32, out: *mut i32, out_len: usize, work: *mut i32, work_len: usize,
         ) -> u64;
+        pub fn tap_run_each(
+            plan: *const u8, plan_len: usize, rows: u32, values: *const i32, values_len: usize, budgets: *const u32,
+            budgets_len: usize, quota: u32, out: *mut i32, out_len: usize, work: *mut i32, work_len: usize,
+        ) -> u64;
         pub fn tap_find(
             result: *const i32, result_len: usize, work: *const i32, work_len: usize, rows: u32, quota: u32,
             columns: u32, row: u32,
@@ -35,6 +39,9 @@ pub const FAULT_PLACE: usize = 3;
 /// The words of a record before its labels.
 pub const RECORD_HEAD: usize = FAULT_PLACE + 1;
 
+/// The words of a line before its columns: row, next block, rounds.
+pub const LINE_HEAD: usize = 3;
+
 /// The words of a row's record.
 pub const fn record_words(quota: u32) -> usize {
     RECORD_HEAD + quota as usize
@@ -42,7 +49,7 @@ pub const fn record_words(quota: u32) -> usize {
 
 /// The words of an unfinished row's line, under a plan with so many [`columns`].
 pub const fn line_words(columns: u32) -> usize {
-    2 + columns as usize
+    LINE_HEAD + columns as usize
 }
 
 /// Why a call changed nothing: docs/USING.md says what each number means.
@@ -109,6 +116,18 @@ pub fn run(
     })
 }
 
+/// As [`run`], with a budget for each row.
+pub fn run_each(
+    plan: &[u8], rows: u32, values: &[i32], budgets: &[u32], quota: u32, out: &mut [i32], work: &mut [i32],
+) -> Result<u32, Refusal> {
+    reply(unsafe {
+        c::tap_run_each(
+            plan.as_ptr(), plan.len(), rows, values.as_ptr(), values.len(), budgets.as_ptr(), budgets.len(), quota,
+            out.as_mut_ptr(), out.len(), work.as_mut_ptr(), work.len(),
+        )
+    })
+}
+
 /// A row's own words in the caller's buffers.
 #[derive(Clone, Copy, Debug, PartialEq, Eq)]
 pub enum Found<'a> {
@@ -118,7 +137,7 @@ pub enum Found<'a> {
     Nowhere,
 }
 
-/// Where a row of a batch lies in the buffers of [`run`].
+/// Where a row of a batch lies in the buffers of [`run`] or [`run_each`].
 pub fn find<'a>(result: &'a [i32], work: &'a [i32], rows: u32, quota: u32, columns: u32, row: u32) -> Found<'a> {
     let answer = unsafe {
         c::tap_find(result.as_ptr(), result.len(), work.as_ptr(), work.len(), rows, quota, columns, row)

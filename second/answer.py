@@ -30,7 +30,7 @@ def answer_bytes(request):
 def answer_run(request):
     result = [UNTOUCHED_WORD] * request.result_room
     working = [UNTOUCHED_WORD] * request.working_room
-    reply = reply_of(calls.run, request.plan, request.rows, request.values, request.budget, request.quota,
+    reply = reply_of(calls.run, request.plan, request.rows, request.values, request.budgets, request.quota,
                      result, working)
     return f"{reply} | {in_decimal(result)} | {in_decimal(working)}"
 

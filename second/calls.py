@@ -33,21 +33,30 @@ def compile(file, buffer):
     return put(compile_rule(payload_of(file)), buffer)
 
 
-def run(plan, rows, values, budget, quota, result, working):
+def run(plan, rows, values, budgets, quota, result, working):
+    """Budgets are a number that all rows have in common, or a list of the rows' own."""
     rule, loop = accept(plan)
+    is_common = isinstance(budgets, int)
     if rows > MOST_ROWS or len(values) != rows * rule.arguments:
         raise Refusal(13, 0)
-    if budget > MOST_ROUNDS or quota > MOST_LABELS:
+    if not is_common and len(budgets) != rows:
+        raise Refusal(13, 0)
+    if quota > MOST_LABELS:
         raise Refusal(14, 0)
+    # A common budget is looked at even if no row has it.
+    for place, budget in enumerate([budgets] if is_common else budgets):
+        if budget > MOST_ROUNDS:
+            raise Refusal(14, place)
     need_room(rows * record_size(quota), result, 0)
     need_room(rows * line_size(len(loop)), working, 1)
     records, lines, most_rounds = [], [], 0
     for row in range(rows):
         arguments = values[row * rule.arguments:(row + 1) * rule.arguments]
-        outcome = run_row(rule, arguments, budget, quota)
+        outcome = run_row(rule, arguments, budgets if is_common else budgets[row], quota)
         records += record(outcome, quota)
         if outcome.status == UNFINISHED:
-            lines += [row, outcome.next_block, *[outcome.store[variable] for variable in loop]]
+            columns = [outcome.store[variable] for variable in loop]
+            lines += [row, outcome.next_block, outcome.rounds, *columns]
         most_rounds = max(most_rounds, outcome.rounds)
     lines += [0] * (rows * line_size(len(loop)) - len(lines))
     put(records, result)
@@ -81,7 +90,7 @@ def record_size(quota):
 
 
 def line_size(columns):
-    return 2 + columns
+    return 3 + columns
 
 
 def need_room(size, buffer, place):

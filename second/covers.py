@@ -1,19 +1,21 @@
 """Counts what a stream and its answers exercise: python3 second/covers.py stream answers
 
 Fails, and says what is missing, unless every reply of every call, every status, every kind of found
-part, every kind of dead blocks in plans made, run and outdated, and every kind of place of a fault by
-every operator has come up.
+part, every kind of dead blocks in plans made, run and outdated, every kind of place of a fault by every
+operator, and every kind of budgets has come up.
 """
 
 import sys
 from collections import Counter
 
-from calls import MOST_COLUMNS, MOST_LABELS, MOST_ROWS, record_size
+from budgets import KINDS as BUDGET_KINDS
+from budgets import kinds_of_13, kinds_of_14, kinds_of_accepted
+from calls import MOST_COLUMNS, MOST_LABELS, MOST_ROWS, line_size, record_size
 from dead import KINDS, dead_kinds, old_plan
 from direct import OUT_OF_RANGE, UNFINISHED, ZERO_DIVISOR
 from faults import FAULTS, PLACES, fault_at
 from files import payload_of
-from plan import carried_rule, compile_rule
+from plan import carried_rule, compile_rule, loop_width
 from refusal import Refusal
 from rule import OPERATORS, parse
 from stream import COMPILE, READ, WRITE, BadRequest, Bytes, Run, requests
@@ -30,6 +32,8 @@ FAULTED = (ZERO_DIVISOR, OUT_OF_RANGE)
 FAULT_WORD = 3  # of a record
 CLEAN_AFTER_FAULT = "run ok, a row without a fault after one with"
 OLD_ROOM, OLD_RECORDS = "run refused 12 at 0, room for records before K4", "find empty, records as before K4"
+OLD_WORKING, OLD_LINES = "run refused 12 at 1, room for lines before K10", "find empty, lines as before K10"
+ROUNDS_WORD = 2  # of a line
 OUTDATED, STILL_GOOD = "old plan refused 15", "old plan still good, dead block"
 
 
@@ -39,8 +43,8 @@ def wanted():
     names += ["run refused 12 at 0", "run refused 12 at 1"]
     names += [f"run status {status}" for status in STATUSES]
     names += [f"find {part}" for part in ("record", "record of a later row", "record of a fault", "line",
-                                          "line of a later row", "empty")]
-    names += [OLD_ROOM, OLD_RECORDS, CLEAN_AFTER_FAULT]
+                                          "line of a later row", "line with rounds", "empty")]
+    names += [OLD_ROOM, OLD_RECORDS, OLD_WORKING, OLD_LINES, CLEAN_AFTER_FAULT, *BUDGET_KINDS]
     names += [f"fault {status} at {tag:02x}" for status, tag in FAULTS]
     names += [f"fault at {tag:02x}, {place}" for place in PLACES for tag in OPERATORS]
     names += [f"{shown}, {kind}" for shown in ("compile ok", "run ok", OUTDATED) for kind in KINDS]
@@ -58,22 +62,33 @@ def seen_in(request, answer):
 
 def seen_in_find(request, answer):
     if answer == "-":
-        return ["find empty", OLD_RECORDS] if only_one_word_short(request) else ["find empty"]
+        return ["find empty", *seen_in_empty(request)]
     status = request.result[request.row * record_size(request.quota)]
     name = "find line" if status == UNFINISHED else "find record"
     names = [name, f"{name} of a later row"] if request.row else [name]
+    if status == UNFINISHED and int(answer.split()[ROUNDS_WORD]):
+        names.append("find line with rounds")
     has_offset = status in FAULTED and int(answer.split()[FAULT_WORD])
     return names + ["find record of a fault"] if has_offset else names
 
 
-def only_one_word_short(find):
-    """Whether nothing but the fourth word of the records is missing."""
+def seen_in_empty(find):
+    """Whether nothing is missing but the fourth word of the records, or the third of the lines."""
     within_limits = find.rows <= MOST_ROWS and find.quota <= MOST_LABELS and find.columns <= MOST_COLUMNS
-    return within_limits and find.row < find.rows and has_old_size(find.rows, find.quota, len(find.result))
+    if not within_limits or find.row >= find.rows:
+        return []
+    size = record_size(find.quota)
+    if has_old_size(find.rows, size, len(find.result)):
+        return [OLD_RECORDS]
+    has_lines = has_old_size(find.rows, line_size(find.columns), len(find.working))
+    old_numbers = find.working[::line_size(find.columns) - 1]
+    has_records = len(find.result) >= find.rows * size
+    return [OLD_LINES] if has_records and has_lines and find.row in old_numbers else []
 
 
-def has_old_size(rows, quota, size):
-    return rows > 0 and size == rows * (record_size(quota) - 1)
+def has_old_size(rows, size, room):
+    """Whether the room is a word short for each record or line of that size."""
+    return rows > 0 and room == rows * (size - 1)
 
 
 def seen_in_bytes(request, name):
@@ -88,19 +103,29 @@ def with_kinds(shown, rule):
 
 def seen_in_run(request, answer):
     reply, result, _ = answer.split(" | ")
-    if reply.startswith("refused 12"):
-        names = ["run refused 12", f"run refused 12 at {reply.split()[2]}"]
-        is_old = has_old_size(request.rows, request.quota, request.result_room)
-        return names + [OLD_ROOM] if is_old else names
-    if reply.startswith("refused 15"):
-        return ["run refused 15", *seen_in_outdated(request.plan)]
     if reply.startswith("refused"):
-        return [reply_name("run", reply)]
+        return [reply_name("run", reply), *seen_in_refused(request, *map(int, reply.split()[1:]))]
     rule, size = carried_rule(request.plan), record_size(request.quota)
     words = result.split()
     records = [list(map(int, words[row * size:(row + 1) * size])) for row in range(request.rows)]
     names = ["run ok", *[f"run status {record[0]}" for record in records]]
+    names += kinds_of_accepted(request, int(reply.split()[1]), records)
     return names + seen_in_accepted(rule) + seen_in_faults(parse(rule), records)
+
+
+def seen_in_refused(run, number, place):
+    if number == 12:
+        return [f"run refused 12 at {place}", *seen_in_short(run, place)]
+    if number == 13:
+        return kinds_of_13(run)
+    return kinds_of_14(run, place) if number == 14 else seen_in_outdated(run.plan)
+
+
+def seen_in_short(run, place):
+    if place == 0:
+        return [OLD_ROOM] if has_old_size(run.rows, record_size(run.quota), run.result_room) else []
+    size = line_size(loop_width(run.plan))
+    return [OLD_WORKING] if has_old_size(run.rows, size, run.working_room) else []
 
 
 def seen_in_faults(tree, records):

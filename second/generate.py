@@ -3,16 +3,19 @@
 import sys
 
 import calls
+from calls import MOST_ROUNDS
 from dice import Dice
 from faults import PLACES
 from files import pages_of
+from make_budgets import HUGE
 from make_damage import damaged_file, damaged_rule, overlong_rule
 from make_finds import find_request
 from make_rules import any_rule, small_rule, stretched, with_dead
-from make_runs import endless, ends_late, full_batch, overlong_carried, run_request, sure_fault_run
+from make_runs import (endless, endless_beside, ends_late, ends_late_apart, full_batch,
+                       overlong_carried, run_request, sure_fault_run, with_budgets)
 from refusal import Refusal
 from rule import LONGEST_RULE, OPERATORS
-from stream import COMPILE, LARGEST, READ, WRITE, Bytes, encode, numbers
+from stream import COMPILE, LARGEST, OWN, READ, RUN, WRITE, Bytes, encode, numbers
 
 
 def read_request(dice):
@@ -56,10 +59,13 @@ def with_room(dice, kind, call, data):
 
 
 def bad_tail(dice):
-    """A request that ends the stream: cut short, of no known kind, or too large."""
+    """A request that ends the stream: cut short, of no known kind or kind of budgets, or too large."""
     whole = encode(dice.weighted(REQUESTS)(dice))
     too_large = numbers(WRITE, LARGEST + 1, 0)
-    return dice.pick((whole[:-1], whole[:3], whole[:4], numbers(0), numbers(6), too_large))
+    no_budgets = numbers(RUN, 0, 2, *[0] * 6)
+    many_budgets = numbers(RUN, 0, OWN, LARGEST + 1, *[0] * (LARGEST + 6))
+    return dice.pick((whole[:-1], whole[:3], whole[:4], numbers(0), numbers(6), too_large, no_budgets,
+                      many_budgets))
 
 
 def longest(kind):
@@ -71,7 +77,10 @@ def longest(kind):
 
 
 # What chance might leave out of a stream comes at its start.
-OPENING = (longest(READ), longest(WRITE), longest(COMPILE), full_batch, endless, ends_late, overlong_carried,
+OPENING = (longest(READ), longest(WRITE), longest(COMPILE), full_batch, endless, endless_beside, ends_late,
+           ends_late_apart, overlong_carried,
+           *[with_budgets(0, budgets) for budgets in (0, HUGE, [], [0])],
+           with_budgets(3, [MOST_ROUNDS, MOST_ROUNDS + 1, MOST_ROUNDS]), with_budgets(2, [1] * LARGEST),
            *[sure_fault_run(tag, place) for place in PLACES for tag in OPERATORS])
 REQUESTS = ((3, read_request), (4, write_request), (3, compile_request), (9, run_request), (6, find_request))
 

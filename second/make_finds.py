@@ -2,19 +2,20 @@
 
 import calls
 from calls import MOST_COLUMNS, MOST_LABELS, MOST_ROWS, line_size, record_size
+from make_budgets import HUGE
 from make_rules import number
-from make_runs import HUGE, WRAPS, fault_rows, few_rows
+from make_runs import WRAPS, ends_apart, fault_rows, few_rows
 from stream import Find
 
 
 def good_find(dice):
     """Asks for a row of a run just made."""
-    make = dice.pick((few_rows, few_rows, fault_rows))
+    make = dice.pick((few_rows, few_rows, fault_rows, ends_apart))
     run = make(dice)
     while run.rows == 0:
         run = make(dice)
     result, working = [0] * run.result_room, [0] * run.working_room
-    calls.run(run.plan, run.rows, run.values, run.budget, run.quota, result, working)
+    calls.run(run.plan, run.rows, run.values, run.budgets, run.quota, result, working)
     columns = run.working_room // run.rows - line_size(0)
     return Find(run.rows, run.quota, columns, dice.below(run.rows), result, working)
 
@@ -48,7 +49,7 @@ def quota_too_high(dice, find):
 
 def too_many_columns(dice, find):
     """Empty even for a row whose record would do."""
-    return find._replace(columns=dice.pick((MOST_COLUMNS + 1, 2**31, HUGE - 1, HUGE)))
+    return find._replace(columns=dice.pick((MOST_COLUMNS + 1, 2**31, 2**32 - line_size(0), HUGE)))
 
 
 def short_result(dice, find):
@@ -59,6 +60,15 @@ def short_result(dice, find):
 def old_result(dice, find):
     """As long as all records were before K4: a word too short for each row."""
     return find._replace(result=find.result[:find.rows * (record_size(find.quota) - 1)])
+
+
+def old_lines(dice, find):
+    """The last row, unfinished as all before it, with lines as before K10: without their third word."""
+    size, lines = line_size(find.columns), []
+    for row in range(find.rows):
+        _, block, _, *columns = find.working[row * size:(row + 1) * size]
+        lines += [row, block, *columns]
+    return with_status(find._replace(row=find.rows - 1, working=lines), 0)
 
 
 def no_rows(dice, find):
@@ -122,9 +132,9 @@ def junk(dice, find):
                          working=[dice.pick(few) for _ in range(len(find.working))])
 
 
-CHANGES = (row_too_high, too_many_rows, quota_too_high, too_many_columns, short_result, old_result, no_rows,
-           no_line, line_cut_off, short_working, line_beyond_count, two_lines, odd_status, other_columns,
-           longer_buffers, junk)
+CHANGES = (row_too_high, too_many_rows, quota_too_high, too_many_columns, short_result, old_result, old_lines,
+           no_rows, no_line, line_cut_off, short_working, line_beyond_count, two_lines, odd_status,
+           other_columns, longer_buffers, junk)
 
 
 def find_request(dice):

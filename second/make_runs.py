@@ -4,6 +4,7 @@ from calls import MOST_COLUMNS, MOST_LABELS, MOST_ROUNDS, MOST_ROWS, line_size, 
 from dead import old_plan
 from direct import LEAST, run_row
 from faults import fault_at
+from make_budgets import HUGE, listed, own_budgets, some_budgets, too_high, wrong_number
 from make_damage import damaged_plan, overlong_plan
 from make_faults import SURE, faulting, row_fault, sure_fault
 from make_rules import CORNERS, any_rule, corner_sums, forever, number, small_rule, tick, with_dead
@@ -11,14 +12,13 @@ from plan import accept, carried_rule, compile_rule
 from rule import parse
 from stream import Run
 
-HUGE = 2**32 - 1
 WRAPS = 2**32 - record_size(0)  # a quota whose records would have a size that wraps to nothing
 
 
 def good_run(dice):
     """Few rows and rounds mostly; the large kinds are rare, as they are long in stream and time."""
-    make = dice.weighted(((100, few_rows), (30, corner_rows), (50, fault_rows), (4, full_batch), (1, endless),
-                          (1, ends_late)))
+    make = dice.weighted(((100, few_rows), (30, corner_rows), (50, fault_rows), (20, ends_apart),
+                          (4, full_batch), (1, endless), (1, endless_beside), (1, ends_late)))
     return make(dice)
 
 
@@ -27,13 +27,15 @@ def few_rows(dice):
 
 
 def few_rows_of(dice, rule):
-    rows, budget = dice.pick((0, 1, 1, 2, 3, 4, 5, 6)), dice.pick((0, 1, 2, 2, 3, 4, 6, 9, 13, 40))
-    return roomy_run(dice, rule, rows, budget, some_values(dice, rows * rule[2]))
+    rows = dice.pick((0, 1, 1, 2, 3, 4, 5, 6))
+    budgets = some_budgets(dice, rows, (0, 1, 2, 2, 3, 4, 6, 9, 13, 40))
+    return roomy_run(dice, rule, rows, budgets, some_values(dice, rows * rule[2]))
 
 
 def corner_rows(dice):
     rows = dice.between(1, 8)
-    return roomy_run(dice, corner_sums(dice), rows, 1, corner_pairs(dice, rows))
+    budgets = some_budgets(dice, rows, (1,))
+    return roomy_run(dice, corner_sums(dice), rows, budgets, corner_pairs(dice, rows))
 
 
 def fault_rows(dice):
@@ -42,7 +44,8 @@ def fault_rows(dice):
 
 def fault_rows_of(dice, fault):
     rows = dice.between(1, 6)
-    return roomy_run(dice, faulting(dice, fault), rows, dice.between(1, 5), corner_pairs(dice, rows))
+    budgets = some_budgets(dice, rows, (1, 2, 3, 4, 5))
+    return roomy_run(dice, faulting(dice, fault), rows, budgets, corner_pairs(dice, rows))
 
 
 def sure_fault_run(tag, place):
@@ -51,7 +54,7 @@ def sure_fault_run(tag, place):
         while True:
             run = fault_rows_of(dice, dice.pick(SURE[tag]))
             tree = parse(carried_rule(run.plan))
-            outcome = run_row(tree, run.values[:tree.arguments], run.budget, run.quota)
+            outcome = run_row(tree, run.values[:tree.arguments], listed(run)[0], run.quota)
             fault = fault_at(tree, outcome.fault_offset, outcome.rounds)
             if fault and fault.tag == tag and place in fault.places:
                 return run
@@ -70,7 +73,8 @@ def corner_pairs(dice, rows):
 def full_batch(dice):
     rule = small_rule(dice)
     rows = dice.pick((MOST_ROWS, MOST_ROWS, 100))
-    return roomy_run(dice, rule, rows, dice.pick((0, 1, 2, 7)), some_values(dice, rows * rule[2]))
+    budgets = some_budgets(dice, rows, (0, 1, 2, 7))
+    return roomy_run(dice, rule, rows, budgets, some_values(dice, rows * rule[2]))
 
 
 def endless(dice):
@@ -79,9 +83,36 @@ def endless(dice):
     return roomy_run(dice, rule, 1, MOST_ROUNDS, [dice.between(0, 9) for _ in range(rule[2])])
 
 
+def endless_beside(dice):
+    """The same for one row, with others that have little to spend or nothing."""
+    rule, budgets = forever(dice), [0, 3, MOST_ROUNDS, 0]
+    return roomy_run(dice, rule, 4, budgets, [dice.between(0, 9) for _ in range(4 * rule[2])])
+
+
+def ends_apart(dice):
+    """Each row with a budget of its own, that is just enough, one too small, or far too large or small."""
+    rows = dice.between(2, 7)
+    values = [dice.between(0, 30) for _ in range(rows)]
+    budgets = [dice.pick((value, value + 1, value + 1, value + 2, 0, 0, MOST_ROUNDS - 1, MOST_ROUNDS))
+               for value in values]
+    return roomy_run(dice, tick(dice), rows, budgets, values)
+
+
 def ends_late(dice):
     """The greatest budget, and rows that end in its last round, one too late, and early."""
     return roomy_run(dice, tick(dice), 3, MOST_ROUNDS, [MOST_ROUNDS - 1, MOST_ROUNDS, dice.between(0, 9)])
+
+
+def ends_late_apart(dice):
+    """The two greatest budgets, and rows that end just within them and just not."""
+    budgets = [MOST_ROUNDS, MOST_ROUNDS - 1, MOST_ROUNDS, MOST_ROUNDS, 0]
+    values = [MOST_ROUNDS - 1, MOST_ROUNDS - 1, MOST_ROUNDS, 0, 0]
+    return roomy_run(dice, tick(dice), len(budgets), budgets, values)
+
+
+def with_budgets(rows, budgets):
+    """A maker of runs with just these."""
+    return lambda dice: roomy_run(dice, tick(dice), rows, budgets, some_values(dice, rows))
 
 
 def old_run(dice):
@@ -101,27 +132,24 @@ def some_values(dice, count):
     return [number(dice) if dice.one_in(3) else dice.between(-2, 12) for _ in range(count)]
 
 
-def roomy_run(dice, rule, rows, budget, values):
+def roomy_run(dice, rule, rows, budgets, values):
     """A run with exactly the room it needs."""
     plan, quota = compile_rule(rule), dice.pick((0, 1, 2, 3, 4, 5, 16))
     _, loop = accept(plan)
-    return Run(rows, budget, quota, rows * record_size(quota), rows * line_size(len(loop)), plan, values)
+    return Run(rows, budgets, quota, rows * record_size(quota), rows * line_size(len(loop)), plan, values)
 
 
 def too_many_rows(dice, run):
-    """With values that fit and values that do not; the products that wrap to 0 are the cunning ones."""
+    """With values and budgets that fit, and that do not; products that wrap to 0 are the cunning ones."""
     arguments = run.plan[2]
     rows = dice.pick((MOST_ROWS + 1, MOST_ROWS + 1, 300, HUGE, 2**31, 2**30, 2**28))
     fitting = rows * arguments % 2**32
-    return run._replace(rows=rows, values=[1] * fitting if fitting < 600 else run.values)
+    run = run._replace(rows=rows, values=[1] * fitting if fitting < 600 else run.values)
+    return run if isinstance(run.budgets, int) or rows > 300 else run._replace(budgets=[1] * rows)
 
 
 def wrong_values(dice, run):
     return run._replace(values=dice.pick((run.values + [0], run.values[:-1], [], run.values * 2)))
-
-
-def budget_too_high(dice, run):
-    return run._replace(budget=dice.pick((MOST_ROUNDS + 1, 2**31, HUGE)))
 
 
 def quota_too_high(dice, run):
@@ -135,7 +163,9 @@ def small_result(dice, run):
 
 
 def small_working(dice, run):
-    return run._replace(working_room=max(run.working_room - dice.pick((1, 1, 2, run.working_room)), 0))
+    # One word less for each row is what lines took before K10.
+    missing = dice.pick((1, 1, 2, run.rows, run.rows, run.working_room))
+    return run._replace(working_room=max(run.working_room - missing, 0))
 
 
 def more_room(dice, run):
@@ -148,11 +178,27 @@ def bad_plan(dice, run):
     return run._replace(plan=damaged_plan(dice, run.plan))
 
 
-WRONGS = (too_many_rows, wrong_values, budget_too_high, quota_too_high, small_result, small_working, bad_plan)
+WRONGS = (too_many_rows, wrong_values, wrong_number, too_high, quota_too_high, small_result, small_working,
+          bad_plan)
+BESIDE_BUDGETS = (wrong_values, wrong_values, quota_too_high, quota_too_high, small_result, small_working,
+                  bad_plan)
+
+
+def wrong_budgets(dice):
+    """Budgets put wrong, mostly a few rows' own, alone or with something that goes before it or after."""
+    rule, rows = any_rule(dice), dice.pick((0, 1, 2, 3, 3, 4, 5, 6))
+    choices = (0, 1, 2, MOST_ROUNDS)
+    budgets = dice.pick(choices) if dice.one_in(5) else own_budgets(dice, rows, choices)
+    run = roomy_run(dice, rule, rows, budgets, some_values(dice, rows * rule[2]))
+    for wrong in dice.pick(((wrong_number,), (too_high,), (too_high,), (wrong_number, too_high))):
+        run = wrong(dice, run)
+    return dice.pick(BESIDE_BUDGETS)(dice, run) if dice.one_in(2) else run
 
 
 def run_request(dice):
     """Two wrongs at once show which of them is answered."""
+    if dice.one_in(5):
+        return wrong_budgets(dice)
     run = old_run(dice) if dice.one_in(12) else good_run(dice)
     if dice.one_in(2):
         return more_room(dice, run) if dice.one_in(2) else run

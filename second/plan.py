@@ -46,6 +46,11 @@ def carried_rule(plan):
     return plan[:HEADER_SIZE] + plan[body_offset(blocks):]
 
 
+def loop_width(plan):
+    """How many columns a plan's lines have, by the mask it begins with."""
+    return int.from_bytes(plan[HEADER_SIZE:HEADER_SIZE + LOOP_MASK_SIZE], "little").bit_count()
+
+
 def body_offset(blocks):
     return HEADER_SIZE + LOOP_MASK_SIZE + ENTRY_SIZE * blocks
 

@@ -3,13 +3,14 @@
 import struct
 from typing import NamedTuple
 
-LARGEST = 8192  # of a room or a length
+LARGEST = 8192  # of a room, a length or a number of things
 
 READ, WRITE, COMPILE, RUN, FIND = range(1, 6)
+OWN, COMMON = range(2)  # what a run's budgets are
 
 
 class BadRequest(Exception):
-    """Cut short, of an unknown kind, or with too large a room or length."""
+    """Cut short, of an unknown kind, with budgets neither common nor own, or too large."""
 
 
 class Bytes(NamedTuple):
@@ -20,7 +21,7 @@ class Bytes(NamedTuple):
 
 class Run(NamedTuple):
     rows: int
-    budget: int
+    budgets: int | list  # one that is common to all rows, or their own
     quota: int
     result_room: int
     working_room: int
@@ -41,8 +42,15 @@ def encode(request):
     if isinstance(request, Bytes):
         return numbers(request.kind, request.room) + counted_bytes(request.data)
     if isinstance(request, Run):
-        return numbers(RUN, *request[:5]) + counted_bytes(request.plan) + counted_words(request.values)
+        head = numbers(RUN, request.rows) + encoded_budgets(request.budgets) + numbers(*request[2:5])
+        return head + counted_bytes(request.plan) + counted_words(request.values)
     return numbers(FIND, *request[:4]) + counted_words(request.result) + counted_words(request.working)
+
+
+def encoded_budgets(budgets):
+    if isinstance(budgets, int):
+        return numbers(COMMON, budgets)
+    return numbers(OWN, len(budgets), *budgets)
 
 
 def numbers(*values):
@@ -65,8 +73,8 @@ def requests(stream):
         if kind in (READ, WRITE, COMPILE):
             yield Bytes(kind, reader.size(), reader.bytes())
         elif kind == RUN:
-            limits = [reader.number() for _ in range(3)]
-            yield Run(*limits, reader.size(), reader.size(), reader.bytes(), reader.words())
+            yield Run(reader.number(), reader.budgets(), reader.number(), reader.size(), reader.size(),
+                      reader.bytes(), reader.words())
         elif kind == FIND:
             asked = [reader.number() for _ in range(4)]
             yield Find(*asked, reader.words(), reader.words())
@@ -93,6 +101,14 @@ class Reader:
         if size > LARGEST:
             raise BadRequest
         return size
+
+    def budgets(self):
+        kind = self.number()
+        if kind == COMMON:
+            return self.number()
+        if kind == OWN:
+            return [self.number() for _ in range(self.size())]
+        raise BadRequest
 
     def bytes(self):
         return self.take(self.size())

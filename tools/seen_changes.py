@@ -10,7 +10,12 @@ from pathlib import Path
 ROOT = Path(__file__).resolve().parent.parent
 ROOM = "    need_room(rows * record_size(quota), result, 0)\n"
 WORKING_ROOM = "    need_room(rows * line_size(len(loop)), working, 1)\n"
-TOO_HIGH = "    if budget > MOST_ROUNDS or quota > MOST_LABELS:\n        raise Refusal(14, 0)\n"
+QUOTA_TOO_HIGH = "    if quota > MOST_LABELS:\n        raise Refusal(14, 0)\n"
+LOOKED_AT = "    # A common budget is looked at even if no row has it.\n"
+IN_TURN = "in enumerate([budgets] if is_common else budgets):\n"
+BUDGET_TOO_HIGH = f"    for place, budget {IN_TURN}        if budget > MOST_ROUNDS:\n            raise Refusal(14, place)\n"
+TOO_HIGH = QUOTA_TOO_HIGH + LOOKED_AT + BUDGET_TOO_HIGH
+MISCOUNTED = "    if not is_common and len(budgets) != rows:\n        raise Refusal(13, 0)\n"
 TOO_MANY = "    if rows > MOST_ROWS or"
 USED_UP = "    if len(labels) == quota:\n        raise RowEnds(QUOTA_USED)\n"
 TOO_LONG = "    if len(rule) > LONGEST_RULE:\n        raise Refusal(11, 0)\n"
@@ -18,7 +23,9 @@ CHECK = "    if int.from_bytes(page[CHECK_AT:], \"little\") != check_of(page, nu
 HELD = "    return page[PAYLOAD_AT"
 FOUND = "    rule = payload_of(file)\n"
 LABEL = "    label = evaluate(statement[1], store)\n"
-RAN = "        outcome = run_row(rule, arguments, budget, quota)\n"
+OWN = "budgets[row]"
+RAN = f"        outcome = run_row(rule, arguments, budgets if is_common else {OWN}, quota)\n"
+LINE = "[row, outcome.next_block, outcome.rounds, *columns]"
 RECORDED = "        records += record(outcome, quota)\n"
 WORKED_OUT = "    return MEANING[tag](store, *parts)\n"
 MOST = "        most_rounds = max(most_rounds, outcome.rounds)\n"
@@ -59,6 +66,16 @@ CHANGES = {
     "a run writes nothing": ("calls.py", [("    put(records, result)\n    put(lines, working)\n", "")]),
     "running: 13 before 15": ("calls.py", [("    rule, loop = accept(plan)\n", "    if rows > MOST_ROWS:\n        raise Refusal(13, 0)\n    rule, loop = accept(plan)\n")]),
     "running: 14 before 13": ("calls.py", [(TOO_MANY, TOO_HIGH + TOO_MANY)]),
+    "running: 13 for the budgets last": ("calls.py", [(MISCOUNTED + TOO_HIGH, TOO_HIGH + MISCOUNTED)]),
+    "running: 14 for a budget before the quota": ("calls.py", [(TOO_HIGH, BUDGET_TOO_HIGH + QUOTA_TOO_HIGH)]),
+    "running: 14 with no row's place": ("calls.py", [("raise Refusal(14, place)", "raise Refusal(14, 0)")]),
+    "running: 14 with the highest row's place": ("calls.py", [(IN_TURN, "in reversed(list(enumerate([budgets] if is_common else budgets))):\n")]),
+    "running: no 14 without rows": ("calls.py", [(IN_TURN, "in enumerate([budgets] * (rows > 0) if is_common else budgets):\n")]),
+    "running: more budgets than rows": ("calls.py", [("len(budgets) != rows", "len(budgets) < rows")]),
+    "the first row's budget for all": ("calls.py", [(OWN, "budgets[0]")]),
+    "the greatest budget for all": ("calls.py", [(OWN, "max(budgets)")]),
+    "a line without its rounds": ("calls.py", [(LINE, "[row, outcome.next_block, 0, *columns]")]),
+    "a line with its rounds first": ("calls.py", [(LINE, "[row, outcome.rounds, outcome.next_block, *columns]")]),
     "running: 12 before 14": ("calls.py", [(TOO_HIGH, ROOM + WORKING_ROOM + TOO_HIGH)]),
     "running: the working buffer first": ("calls.py", [(ROOM + WORKING_ROOM, WORKING_ROOM + ROOM)]),
     "reading: 3 before 2": ("files.py", [(CHECK, ""), (HELD, CHECK + HELD)]),

@@ -1,4 +1,7 @@
-/* Rule R of the scope document: written to a file's bytes, read again, compiled, run over four rows, each row found. */
+/*
+ * Rule R of the scope document: written to a file's bytes, read again, compiled, run over four rows, each row found;
+ * first with one budget for all rows, then with a budget for each.
+ */
 #include "tapsquirrel.h"
 
 #include <inttypes.h>
@@ -79,10 +82,18 @@ static void print_row(const struct batch *b, uint32_t row)
         printf(" nowhere\n");
 }
 
+static void print_batch(const struct batch *b, uint32_t rounds)
+{
+    for (uint32_t row = 0; row <= ROWS; row++)
+        print_row(b, row);
+    printf("rounds %" PRIu32 "\n", rounds);
+}
+
 int main(void)
 {
     static uint8_t file[TAP_FILE_BYTES], again[TAP_RULE_BYTES], plan[TAP_PLAN_BYTES];
     static const int32_t values[ROWS] = {2, 0, -5, INT32_MAX};
+    static const uint32_t budgets[ROWS] = {3, 0, 1, 1};
 
     size_t file_len = accepted(tap_write(rule, sizeof rule, file, sizeof file));
     size_t rule_len = accepted(tap_read(file, file_len, again, sizeof again));
@@ -90,11 +101,12 @@ int main(void)
     struct batch b = room_for(accepted(tap_columns(plan, plan_len)));
     printf("file %zu bytes, rule %zu bytes, plan %zu bytes, columns %" PRIu32 "\n", file_len, rule_len, plan_len, b.columns);
 
-    uint32_t rounds = accepted(
-        tap_run(plan, plan_len, ROWS, values, ROWS, BUDGET, QUOTA, b.result, b.result_len, b.work, b.work_len));
-    for (uint32_t row = 0; row <= ROWS; row++)
-        print_row(&b, row);
-    printf("rounds %" PRIu32 "\n", rounds);
+    printf("budget %d for all rows\n", BUDGET);
+    print_batch(&b, accepted(tap_run(plan, plan_len, ROWS, values, ROWS, BUDGET, QUOTA, b.result, b.result_len, b.work,
+                                     b.work_len)));
+    printf("a budget for each row\n");
+    print_batch(&b, accepted(tap_run_each(plan, plan_len, ROWS, values, ROWS, budgets, ROWS, QUOTA, b.result,
+                                          b.result_len, b.work, b.work_len)));
     free(b.result);
     free(b.work);
     return 0;

@@ -1,4 +1,5 @@
-//! Rule R of the scope document: written to a file's bytes, read again, compiled, run over four rows, each row found.
+//! Rule R of the scope document: written to a file's bytes, read again, compiled, run over four rows, each row found;
+//! first with one budget for all rows, then with a budget for each.
 
 #[path = "../../include/tapsquirrel.rs"]
 mod tapsquirrel;
@@ -17,6 +18,7 @@ const RULE: [u8; 45] = [
 const BUDGET: u32 = 2;
 const QUOTA: u32 = 4;
 const VALUES: [i32; 4] = [2, 0, -5, i32::MAX];
+const BUDGETS: [u32; 4] = [3, 0, 1, 1];
 
 fn print_row(row: u32, found: Found) {
     let (title, words) = match found {
@@ -42,6 +44,14 @@ fn print_fault(record: &[i32]) {
     }
 }
 
+fn print_batch(result: &[i32], work: &[i32], columns: u32, rounds: u32) {
+    let rows = VALUES.len() as u32;
+    for row in 0..=rows {
+        print_row(row, tapsquirrel::find(result, work, rows, QUOTA, columns, row));
+    }
+    println!("rounds {rounds}");
+}
+
 fn example() -> Result<(), Refusal> {
     let mut file = [0; tapsquirrel::FILE_BYTES];
     let file_len = tapsquirrel::write(&RULE, &mut file)?;
@@ -55,11 +65,12 @@ fn example() -> Result<(), Refusal> {
     let mut result = vec![0; VALUES.len() * tapsquirrel::record_words(QUOTA)];
     let mut work = vec![0; VALUES.len() * tapsquirrel::line_words(columns)];
     let rows = VALUES.len() as u32;
+    println!("budget {BUDGET} for all rows");
     let rounds = tapsquirrel::run(plan, rows, &VALUES, BUDGET, QUOTA, &mut result, &mut work)?;
-    for row in 0..=rows {
-        print_row(row, tapsquirrel::find(&result, &work, rows, QUOTA, columns, row));
-    }
-    println!("rounds {rounds}");
+    print_batch(&result, &work, columns, rounds);
+    println!("a budget for each row");
+    let rounds = tapsquirrel::run_each(plan, rows, &VALUES, &BUDGETS, QUOTA, &mut result, &mut work)?;
+    print_batch(&result, &work, columns, rounds);
     Ok(())
 }
 

@@ -13,6 +13,7 @@ use lib.Seq.{take-suc-set}
 use Rattle.definitions.specs.Values.{Word}
 use Rattle.definitions.specs.Grammar.{Got, got, refused, constantIn}
 use Rattle.definitions.specs.Plan.{planned, longestPlan}
+use Rattle.definitions.specs.Batch.{common}
 use Rattle.definitions.specs.Calls.{Batch, refusal, Ran, Wrote, runReply, recordsIn, toCompile, replyIn}
 use Rattle.definitions.specs.declared.Refusal.{Refusal}
 use Rattle.definitions.specs.declared.Reply.{Reply}
@@ -108,7 +109,7 @@ module _ (plan s : List ℕ) where
 
   -- the same batch, from its parts
   pub batch-text : {values : List Word} {rows budget quota : ℕ} → rows ≡ numberIn s 0 → values ≡ wordsIn s ((length s - 12) / 4) → budget ≡ numberIn s 4
-      → quota ≡ numberIn s 8 → batchAnswer (record { plan = plan; rows = rows; values = values; budget = budget; quota = quota }) ≡ batchAnswer (batchIn plan s)
+      → quota ≡ numberIn s 8 → batchAnswer (record { plan = plan; rows = rows; values = values; budgets = common budget; quota = quota }) ≡ batchAnswer (batchIn plan s)
   batch-text r v b q = rw (r, v, b, q)
 
 -- ---- the answer of a file

@@ -7,7 +7,7 @@ use lib.ListN.{length, getD}
 use Rattle.definitions.specs.Values.{Word}
 use Rattle.definitions.specs.Grammar.{wordOf, constantIn, mostVariables}
 use Rattle.definitions.specs.Plan.{planned, longestPlan}
-use Rattle.definitions.specs.Batch.{recordSize, lineSize}
+use Rattle.definitions.specs.Batch.{common, recordSize, lineSize}
 use Rattle.definitions.specs.Finder.{mostRows, mostQuota, mostColumns}
 use Rattle.definitions.specs.Calls.{Batch, toCompile, replyIn, bytesIn, runReply, recordsIn}
 use Rattle.definitions.specs.declared.Reply.{Reply}
@@ -35,7 +35,7 @@ noBatch size = ltb size 12 || (ltb mostInput size || not (eqb (size % 4) 0))
 
 abbrev pub batchIn : List ℕ → List ℕ → Batch
 batchIn plan s =
-    record { plan = plan; rows = numberIn s 0; values = wordsIn s ((length s - 12) / 4); budget = numberIn s 4; quota = numberIn s 8 }
+    record { plan = plan; rows = numberIn s 0; values = wordsIn s ((length s - 12) / 4); budgets = common (numberIn s 4); quota = numberIn s 8 }
 
 -- ---- the text
 

@@ -12,6 +12,7 @@ ghost use mathlib.Core.Path.{_≡_};
 ghost use Prim.Native.Nat.{_+_, _*_, _≤_};
 ghost use lib.ListN.{length, take};
 ghost use Rattle.io.specs.Counts.{Counts};
+ghost use Rattle.definitions.specs.Batch.{common};
 ghost use Rattle.printing.specs.Text.{textRoom};
 ghost use Rattle.answers.specs.Answer.{numberIn, wordsIn, noBatch, mostInput, batchIn, inputAnswer, batchAnswer, answerTo};
 
@@ -53,7 +54,7 @@ fn put_batch(
 ) -> usize
     requires { ⌜ textRoom ≤ length (now out) ⌝ }
     ensures { λ r. ⌜ Counts r (now (out .exit)) ⌝ }
-    ensures { λ r. ⌜ take r (now (out .exit)) ≡ batchAnswer (record { plan = now (plan .entry); rows = rows; values = now (values .entry); budget = budget; quota = quota }) ⌝ }
+    ensures { λ r. ⌜ take r (now (out .exit)) ≡ batchAnswer (record { plan = now (plan .entry); rows = rows; values = now (values .entry); budgets = common budget; quota = quota }) ⌝ }
 {
     let mut result = [0i32; MOST_RECORDS];
     let mut work = [0i32; MOST_LINES];

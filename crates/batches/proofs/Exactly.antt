@@ -14,12 +14,13 @@ use Rattle.definitions.specs.Grammar.{Got, got, refused}
 use Rattle.definitions.specs.Plan.{planned}
 use Rattle.definitions.specs.Batch.{recordSize, lineSize}
 use Rattle.definitions.specs.Finder.{mostRows, mostQuota}
-use Rattle.definitions.specs.Calls.{Batch, Ran, ranReply, runReply, mostBudget, columns, refusal}
+use Rattle.definitions.specs.Calls.{Batch, Ran, brought, asMany, ranReply, runReply, columns, refusal}
 use Rattle.definitions.specs.declared.Reply.{Reply}
 use Rattle.definitions.specs.declared.Reply.the-variants.{Done}
 use Rattle.definitions.proofs.Tests.{or-right, less-or}
 use Rattle.plans.proofs.Planned.{plan-exactly}
-use Rattle.batches.specs.Replies.{Fitting, Low, UnderRule, misfit, high, shortOut, shortWork, done, ToRun, noPlan, under}
+use Rattle.batches.proofs.Budgets.{first-is, over-or, is-over, is-none, is-counted, is-miscounted, counted-or}
+use Rattle.batches.specs.Replies.{Counted, Fitting, NoneOver, FirstOver, Low, UnderRule, misfit, high, highRow, shortOut, shortWork, done, ToRun, noPlan, under}
 
 same-or : (a b : ℕ) → (a ≡ b) ⊎ (a ≡ b → ⊥)
 same-or a b = go (eqb a b) refl
@@ -33,50 +34,46 @@ module _ (b : Batch) (r : Rule) (out work : ℕ) where
   -- some row of the table holds
   some-row : (q : Reply) × UnderRule b r out work q
   some-row =
-      go (less-or mostRows (b .rows)) (same-or (length (b .values)) (b .rows * r .arguments)) (less-or mostBudget (b .budget)) (less-or mostQuota (b .quota))
+      go (less-or mostRows (b .rows)) (same-or (length (b .values)) (b .rows * r .arguments)) (counted-or (b .rows) (b .budgets)) (less-or mostQuota (b .quota)) (over-or (brought (b .budgets)))
       (less-or out (b .rows * recordSize (b .quota))) (less-or work (b .rows * lineSize (columns r)))
     where
       go : (mostRows < b .rows) ⊎ (b .rows ≤ mostRows) → (length (b .values) ≡ b .rows * r .arguments) ⊎ (length (b .values) ≡ b .rows * r .arguments → ⊥)
-          → (mostBudget < b .budget) ⊎ (b .budget ≤ mostBudget) → (mostQuota < b .quota) ⊎ (b .quota ≤ mostQuota)
+          → Counted (b .rows) (b .budgets) ⊎ (Counted (b .rows) (b .budgets) → ⊥) → (mostQuota < b .quota) ⊎ (b .quota ≤ mostQuota)
+          → ((n : ℕ) × FirstOver (brought (b .budgets)) n) ⊎ NoneOver (brought (b .budgets))
           → (out < b .rows * recordSize (b .quota)) ⊎ (b .rows * recordSize (b .quota) ≤ out) → (work < b .rows * lineSize (columns r)) ⊎ (b .rows * lineSize (columns r) ≤ work)
           → (q : Reply) × UnderRule b r out work q
-      go (inl h) _ _ _ _ _ = (_, misfit (inl h))
-      go (inr f) (inr h) _ _ _ _ = (_, misfit (inr h))
-      go (inr f) (inl g) (inl h) _ _ _ = (_, high (record { few = f; given = g }) (inl h))
-      go (inr f) (inl g) (inr n) (inl h) _ _ = (_, high (record { few = f; given = g }) (inr h))
-      go (inr f) (inl g) (inr n) (inr l) (inl h) _ = (_, shortOut (record { few = f; given = g }) (record { budget-low = n; quota-low = l }) h)
-      go (inr f) (inl g) (inr n) (inr l) (inr o) (inl h) = (_, shortWork (record { few = f; given = g }) (record { budget-low = n; quota-low = l }) o h)
-      go (inr f) (inl g) (inr n) (inr l) (inr o) (inr w) = (_, done (record { few = f; given = g }) (record { budget-low = n; quota-low = l }) o w)
+      go (inl h) _ _ _ _ _ _ = (_, misfit (inl h))
+      go (inr f) (inr h) _ _ _ _ _ = (_, misfit (inr (inl h)))
+      go (inr f) (inl g) (inr h) _ _ _ _ = (_, misfit (inr (inr h)))
+      go (inr f) (inl g) (inl c) (inl h) _ _ _ = (_, high (record { few = f; given = g; counted = c }) h)
+      go (inr f) (inl g) (inl c) (inr l) (inl h) _ _ = (_, highRow (record { few = f; given = g; counted = c }) l (h .1))
+      go (inr f) (inl g) (inl c) (inr l) (inr n) (inl h) _ = (_, shortOut (record { few = f; given = g; counted = c }) (record { budgets-low = n; quota-low = l }) h)
+      go (inr f) (inl g) (inl c) (inr l) (inr n) (inr o) (inl h) = (_, shortWork (record { few = f; given = g; counted = c }) (record { budgets-low = n; quota-low = l }) o h)
+      go (inr f) (inl g) (inl c) (inr l) (inr n) (inr o) (inr w) = (_, done (record { few = f; given = g; counted = c }) (record { budgets-low = n; quota-low = l }) o w)
 
-  -- the tests of 13 and 14
+  -- the test of 13
   abbrev misfits : Bool
-  misfits = ltb mostRows (b .rows) || not (eqb (length (b .values)) (b .rows * r .arguments))
+  misfits = ltb mostRows (b .rows) || (not (eqb (length (b .values)) (b .rows * r .arguments)) || not (asMany (b .rows) (b .budgets)))
 
-  abbrev highs : Bool
-  highs = ltb mostBudget (b .budget) || ltb mostQuota (b .quota)
-
-  is-misfit : (mostRows < b .rows) ⊎ (length (b .values) ≡ b .rows * r .arguments → ⊥) → misfits ≡ true
+  is-misfit : (mostRows < b .rows) ⊎ ((length (b .values) ≡ b .rows * r .arguments → ⊥) ⊎ (Counted (b .rows) (b .budgets) → ⊥)) → misfits ≡ true
   is-misfit (inl h) = rw (lt-ltb mostRows (b .rows) h)
-  is-misfit (inr h) = or-right (ltb mostRows (b .rows)) _ (ap not (ne-eqb (length (b .values)) (b .rows * r .arguments) h))
+  is-misfit (inr (inl h)) = or-right (ltb mostRows (b .rows)) _ (rw (ne-eqb (length (b .values)) (b .rows * r .arguments) h))
+  is-misfit (inr (inr h)) = or-right (ltb mostRows (b .rows)) _ (or-right (not (eqb (length (b .values)) (b .rows * r .arguments))) _ (ap not (is-miscounted (b .rows) (b .budgets) h)))
 
   is-fitting : Fitting b r → misfits ≡ false
-  is-fitting f = rw (le-ltb mostRows (b .rows) (f .few), eq-eqb (length (b .values)) (b .rows * r .arguments) (f .given))
-
-  is-high : (mostBudget < b .budget) ⊎ (mostQuota < b .quota) → highs ≡ true
-  is-high (inl h) = rw (lt-ltb mostBudget (b .budget) h)
-  is-high (inr h) = or-right (ltb mostBudget (b .budget)) _ (lt-ltb mostQuota (b .quota) h)
-
-  is-low : Low b → highs ≡ false
-  is-low l = rw (le-ltb mostBudget (b .budget) (l .budget-low), le-ltb mostQuota (b .quota) (l .quota-low))
+  is-fitting f = rw (le-ltb mostRows (b .rows) (f .few), eq-eqb (length (b .values)) (b .rows * r .arguments) (f .given), is-counted (b .rows) (b .budgets) (f .counted))
 
   -- and it is the one whose reply is given
   only-row : (q : Reply) → UnderRule b r out work q → ranReply b r out work ≡ q
   unfolding ranReply
   only-row _ (misfit h) = rw (is-misfit h)
-  only-row _ (high f h) = rw (is-fitting f, is-high h)
-  only-row _ (shortOut f l h) = rw (is-fitting f, is-low l, lt-ltb out (b .rows * recordSize (b .quota)) h)
-  only-row _ (shortWork f l o h) = rw (is-fitting f, is-low l, le-ltb out (b .rows * recordSize (b .quota)) o, lt-ltb work (b .rows * lineSize (columns r)) h)
-  only-row _ (done f l o w) = rw (is-fitting f, is-low l, le-ltb out (b .rows * recordSize (b .quota)) o, le-ltb work (b .rows * lineSize (columns r)) w)
+  only-row _ (high f h) = rw (is-fitting f, lt-ltb mostQuota (b .quota) h)
+  only-row _ (highRow {n} f l h) = rw (is-fitting f, le-ltb mostQuota (b .quota) l, is-over (brought (b .budgets)) n h, first-is (brought (b .budgets)) n h)
+  only-row _ (shortOut f l h) = rw (is-fitting f, le-ltb mostQuota (b .quota) (l .quota-low), is-none (brought (b .budgets)) (l .budgets-low), lt-ltb out (b .rows * recordSize (b .quota)) h)
+  only-row _ (shortWork f l o h) =
+      rw (is-fitting f, le-ltb mostQuota (b .quota) (l .quota-low), is-none (brought (b .budgets)) (l .budgets-low), le-ltb out (b .rows * recordSize (b .quota)) o, lt-ltb work (b .rows * lineSize (columns r)) h)
+  only-row _ (done f l o w) =
+      rw (is-fitting f, le-ltb mostQuota (b .quota) (l .quota-low), is-none (brought (b .budgets)) (l .budgets-low), le-ltb out (b .rows * recordSize (b .quota)) o, le-ltb work (b .rows * lineSize (columns r)) w)
 
 -- ---- of any bytes
 module _ (b : Batch) (out work : ℕ) where

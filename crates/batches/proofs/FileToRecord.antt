@@ -13,9 +13,9 @@ use Rattle.definitions.specs.Grammar.{Got, got, ruleOf}
 use Rattle.definitions.specs.Plan.{planned}
 use Rattle.definitions.specs.Pages.{unpacked}
 use Rattle.definitions.specs.Faulting.{Among, Tells}
-use Rattle.definitions.specs.Batch.{recordSize, lineSize}
+use Rattle.definitions.specs.Batch.{budgetOf, recordSize, lineSize}
 use Rattle.definitions.specs.Finder.{mostRows, mostQuota}
-use Rattle.definitions.specs.Calls.{Batch, mostBudget, columns, refusal, toWrite, toCompile, Wrote, ranReply, runReply, recordsIn, tableIn, Ran}
+use Rattle.definitions.specs.Calls.{Batch, brought, asMany, firstOver, someOver, columns, refusal, toWrite, toCompile, Wrote, ranReply, runReply, recordsIn, tableIn, Ran}
 use Rattle.definitions.specs.declared.Reply.{Reply}
 use Rattle.definitions.specs.declared.Reply.the-variants.{Done, Refused}
 use Rattle.pages.proofs.Trip.{Bytes, read-write}
@@ -33,12 +33,13 @@ numberOf (Refused f) = f .number
 numberOf (Done most) = 0
 
 -- no test that comes after the plan gives a 15
-none-15 : (a b c d : Bool) (most : ℕ) → numberOf (cond a (refusal 13 0) (cond b (refusal 14 0) (cond c (refusal 12 0) (cond d (refusal 12 1) (Done most))))) ≡ 15 → ⊥
-none-15 true b c d most e = omega arith
-none-15 false true c d most e = omega arith
-none-15 false false true d most e = omega arith
-none-15 false false false true most e = omega arith
-none-15 false false false false most e = omega arith
+none-15 : (a b c d e : Bool) (n most : ℕ) → numberOf (cond a (refusal 13 0) (cond b (refusal 14 0) (cond c (refusal 14 n) (cond d (refusal 12 0) (cond e (refusal 12 1) (Done most)))))) ≡ 15 → ⊥
+none-15 true b c d e n most i = omega arith
+none-15 false true c d e n most i = omega arith
+none-15 false false true d e n most i = omega arith
+none-15 false false false true e n most i = omega arith
+none-15 false false false false true n most i = omega arith
+none-15 false false false false false n most i = omega arith
 
 module _ (r : Rule) (n : ℕ) (b : Batch) (out work : List Word) (reply : Reply) (out' work' : List Word) (accepted : planned (b .plan) ≡ got r n) (ran : Ran b out work reply out' work') where
   answered : reply ≡ ranReply b r (length out) (length work)
@@ -48,8 +49,8 @@ module _ (r : Rule) (n : ℕ) (b : Batch) (out work : List Word) (reply : Reply)
   accepts : (place : ℕ) → reply ≡ refusal 15 place → ⊥
   unfolding ranReply
   accepts place e =
-      none-15 (ltb mostRows (b .rows) || not (eqb (length (b .values)) (b .rows * r .arguments))) (ltb mostBudget (b .budget) || ltb mostQuota (b .quota))
-      (ltb (length out) (b .rows * recordSize (b .quota))) (ltb (length work) (b .rows * lineSize (columns r))) _ (ap numberOf (sym answered ∙ e))
+      none-15 (ltb mostRows (b .rows) || (not (eqb (length (b .values)) (b .rows * r .arguments)) || not (asMany (b .rows) (b .budgets)))) (ltb mostQuota (b .quota)) (someOver (brought (b .budgets)))
+      (ltb (length out) (b .rows * recordSize (b .quota))) (ltb (length work) (b .rows * lineSize (columns r))) (firstOver (brought (b .budgets))) _ (ap numberOf (sym answered ∙ e))
 
   directly : DirectRun r b out work reply out' work'
   unfolding recordsIn tableIn
@@ -58,7 +59,7 @@ module _ (r : Rule) (n : ℕ) (b : Batch) (out work : List Word) (reply : Reply)
     answer = answered;
     results = rw accepted at (ran .result);
     table = rw accepted at (ran .working);
-    row = λ most k e h. direct (b .plan) r n accepted _ (b .quota) (b .budget) k out' (record {
+    row = λ most k e h. direct (b .plan) r n accepted _ (b .quota) (budgetOf (b .budgets) k) k out' (record {
       batch = b;
       out = out;
       work = work;
@@ -97,7 +98,7 @@ module _ (s : List ℕ) (small : Bytes s) (read : Got Rule) (held : read ≡ rul
       → (k : ℕ) → k < b .rows → Tells (Among 0 s) (finishIn (recordAt (b .quota) k out'))
   row-told b out work most out' work' e ran k h =
       let p = runs-as .plan-for in
-      rw (runs-as .direct-run b out work (Done most) out' work' e ran .row most k refl h) (row-tells s small (p .rule) (p .end) (sym held ∙ p .is) (b .quota) (b .budget) (valuesIn (take (p .rule .arguments) (drop (k * p .rule .arguments) (b .values)))))
+      rw (runs-as .direct-run b out work (Done most) out' work' e ran .row most k refl h) (row-tells s small (p .rule) (p .end) (sym held ∙ p .is) (b .quota) (budgetOf (b .budgets) k) (valuesIn (take (p .rule .arguments) (drop (k * p .rule .arguments) (b .values)))))
 
 pub rule-told :
     (s old : List ℕ) (n : ℕ) (file : List ℕ) → Bytes s → Wrote (toWrite s) old (Done n) file →

@@ -25,7 +25,7 @@ use Rattle.finder.specs.Limits.{within}
 use Rattle.finder.proofs.Finds.{found-line, found-record}
 use Rattle.layouts.proofs.Buffers.{part-get}
 use Rattle.batches.proofs.Accepted.{is-proper}
-use Rattle.batches.proofs.Promises.{Called, recordAt, direct}
+use Rattle.batches.proofs.Promises.{Called, recordAt, roundsOf, direct}
 use Rattle.batches.proofs.Exactly.{run-exactly, done-within}
 use Rattle.batches.proofs.Searches.{addressOf, its-line}
 
@@ -77,7 +77,7 @@ module _ (plan : List ℕ) (r : Rule) (n : ℕ) (accepted : planned plan ≡ got
 
     -- how many rows before it are unfinished
     abbrev pub linesBefore : ℕ
-    linesBefore = liveOf (statesOf r (batch .values) k N q)
+    linesBefore = liveOf (statesOf r (batch .values) k (batch .budgets) q)
 
     -- an unfinished row: its line, where it stands in the working buffer
     pub unfinished-found : goesOn (its .finish) ≡ true → foundFor a ≡ (addressOf (a .work) (linesBefore * lineSize (columns r)), lineOf (r .variables) (LC (flowOf r)) k its)
@@ -86,7 +86,11 @@ module _ (plan : List ℕ) (r : Rule) (n : ℕ) (accepted : planned plan ≡ got
         let c = a .called in
         let w = sym (rw (ap planned (c .plan') ∙ accepted) at (c .ran .working)) ∙ a .table in
         sym (found-line (a .result) (a .work) (batch .rows) q (columns r) k inside (ap (λ (x : Word). isNumber x 0) status-word ∙ z))
-        ∙ its-line r (batch .values) args (batch .rows) (batch .budget) (batch .quota) N q k (a .work) _ (sym (append-assoc (linesIn r 0 (statesOf r (batch .values) (batch .rows) (batch .budget) (batch .quota))) _ _) ∙ w) (c .budget) (c .quota) (c .args') (c .within) z
+        ∙ its-line r (batch .values) args (batch .rows) (batch .budgets) (batch .quota) N q k (a .work) _ (sym (append-assoc (linesIn r 0 (statesOf r (batch .values) (batch .rows) (batch .budgets) (batch .quota))) _ _) ∙ w) (c .budget) (c .quota) (c .args') (c .within) z
+
+    -- a line's third word is its record's second
+    pub line-rounds : goesOn (its .finish) ≡ true → getD (foundFor a .1) 2 (pos 0) ≡ roundsOf (recordAt q k (a .result .now))
+    line-rounds z = rw (unfinished-found z, record-words)
 
   -- a line does not depend on the row's neighbours, and of its words only the first depends on the row's place
   pub line-alone : (k k′ : ℕ) (a : Sought plan r args N q k) (a′ : Sought plan r args N q k′) → goesOn (its .finish) ≡ true → drop 1 (foundFor a .1) ≡ drop 1 (foundFor a′ .1)

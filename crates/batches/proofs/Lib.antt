@@ -1,3 +1,4 @@
+pub mod Budgets
 pub mod Accepted
 pub mod Replies
 pub mod Exactly
@@ -6,3 +7,4 @@ pub mod FileToRecord
 pub mod Searches
 pub mod Found
 pub mod Older
+pub mod CommonBudget

@@ -4,28 +4,29 @@ use mathlib.Core.Path.{_≡_, refl, sym, ap, _∙_}
 use mathlib.Core.Bool.{Bool, true, false}
 use Prim.Native.Nat.{ℕ, zero, suc, _+_, _-_, _*_, _≤_, _<_}
 use native.Mathlib.Omega.{arith}
-use mathlib.Core.List.{List, [], _∷_, _++_, map, append-assoc, map-append}
+use mathlib.Core.List.{List, [], _∷_, _++_, append-assoc}
 use lib.IntN.{pos, natAbs}
 use lib.ListN.{length, take, drop, getD, replicate, length-take}
 use lib.Seq.{take-at}
 use lib.Dec.{ltb}
-use borrow.Author.Tests.{ltb-true, ltb-false, ne-eqb}
+use borrow.Author.Tests.{ltb-true, ltb-false, eq-eqb, ne-eqb}
 use Rattle.definitions.specs.Values.{Word, Val, valuesIn, wordsOf}
 use Rattle.definitions.specs.Rule.{Rule}
 use Rattle.definitions.specs.Grammar.{got}
 use Rattle.definitions.specs.Plan.{planned}
 use Rattle.definitions.specs.Direct.{State, start, after, goesOn}
-use Rattle.definitions.specs.Batch.{recordSize, recordOf, recordsOf, startAt, startsOf}
+use Rattle.definitions.specs.Batch.{Budgets, budgetOf, mapFrom, recordSize, recordOf, recordsOf, startAt, startsOf, statesOf}
 use Rattle.definitions.specs.Calls.{Batch, Ran, recordsIn}
 use Rattle.definitions.proofs.Values.{values-length, words-length, values-again}
 use Rattle.definitions.specs.declared.Refusal.{Refusal}
 use Rattle.definitions.specs.declared.Reply.{Reply}
 use Rattle.definitions.specs.declared.Reply.the-variants.{Done, Refused}
 use Rattle.columns.specs.Proper.{Proper}
-use Rattle.columns.proofs.Rows.{Grown, after-add, after-done, after-grown, run-sound}
+use Rattle.columns.proofs.Rows.{Grown, after-begun, after-add, after-done, after-grown, run-sound}
 use Rattle.layouts.proofs.Buffers.{part-mid}
 use Rattle.layouts.proofs.Looks.{record-length}
-use Rattle.tables.proofs.Rows.{records-append}
+use Rattle.tables.proofs.Rows.{map-append, records-append}
+use Rattle.tables.proofs.Starts.{starts-length}
 use Rattle.tables.proofs.Runs.{records-size}
 use Rattle.batches.proofs.Accepted.{is-proper}
 
@@ -50,10 +51,13 @@ recordAt q k out = take (recordSize q) (drop (k * recordSize q) out)
 abbrev pub statusOf : List Word → Word
 statusOf words = getD words 0 (pos 0)
 
+abbrev pub roundsOf : List Word → Word
+roundsOf words = getD words 1 (pos 0)
+
 abbrev pub labelsOf : List Word → List Val
 labelsOf words = valuesIn (take (natAbs (getD words 2 (pos 0))) (drop (recordSize 0) words))
 
--- some batch holds a row with these arguments at place k, and its call, under this budget and quota, leaves these results
+-- some batch holds a row with these arguments at place k, and its call, with this budget for that row and this quota, leaves these results
 pub record Called (plan : List ℕ) (r : Rule) (args : List Val) (N q k : ℕ) (results : List Word) : Type 0 where
   pub batch : Batch
   pub out : List Word
@@ -62,7 +66,7 @@ pub record Called (plan : List ℕ) (r : Rule) (args : List Val) (N q k : ℕ) (
   pub most : ℕ
   pub ran : Ran batch out work (Done most) results table
   pub plan' : batch .plan ≡ plan
-  pub budget : batch .budget ≡ N
+  pub budget : budgetOf (batch .budgets) k ≡ N
   pub quota : batch .quota ≡ q
   pub within : k < batch .rows
   pub args' : valuesIn (take (r .arguments) (drop (k * r .arguments) (batch .values))) ≡ args
@@ -93,22 +97,23 @@ module _ (r : Rule) (ok : Proper r) where
   args-few values k = omega (arith, ok .given, values-length (take (r .arguments) (drop (k * r .arguments) values)), length-take (r .arguments) (drop (k * r .arguments) values))
 
   -- the record of row k is that of its own direct run, whatever stands beside it
-  alone : (values : List Word) (rows N q k : ℕ) (tail : List Word) → k < rows
-      → recordAt q k (recordsOf q (map (after r q N) (startsOf r values rows)) ++ tail) ≡ recordOf q (after r q N (startAt r values k))
-  unfolding recordsOf
-  alone values rows N q k tail h =
-      let g : State → State = after r q N in
+  alone : (values : List Word) (rows : ℕ) (bs : Budgets) (q k : ℕ) (tail : List Word) → k < rows
+      → recordAt q k (recordsOf q (statesOf r values rows bs q) ++ tail) ≡ recordOf q (after r q (budgetOf bs k) (startAt r values k))
+  unfolding recordsOf mapFrom
+  alone values rows bs q k tail h =
+      let g : ℕ → State → State = λ n. after r q (budgetOf bs n) in
       let s : State = startAt r values k in
       let c : Split r values rows k = starts-split r values rows k h in
       let before : List State = startsOf r values k in
-      let e : recordsOf q (map g (startsOf r values rows)) ++ tail ≡ recordsOf q (map g before) ++ (recordOf q (g s) ++ (recordsOf q (map g (c .rest)) ++ tail)) =
-      ap (λ (l : List State). recordsOf q (map g l) ++ tail) (c .is) ∙ rw (map-append, records-append) (simp append-assoc) in
-      rw e (part-mid (recordsOf q (map g before)) (recordOf q (g s)) (recordsOf q (map g (c .rest)) ++ tail) (k * recordSize q) (recordSize q)
-      (records-size r ok values (record { rows = k; budget = N }) q) (record-length r q N (g s) (run-sound r q ok (valuesIn (take (r .arguments) (drop (k * r .arguments) values))) (args-few values k) N)))
+      let there : 0 + length before ≡ k = omega (arith, starts-length r values k) in
+      let e : recordsOf q (mapFrom g 0 (startsOf r values rows)) ++ tail ≡ recordsOf q (mapFrom g 0 before) ++ (recordOf q (g k s) ++ (recordsOf q (mapFrom g (k + 1) (c .rest)) ++ tail)) =
+      ap (λ (l : List State). recordsOf q (mapFrom g 0 l) ++ tail) (c .is) ∙ rw (map-append g 0 before (s ∷ c .rest), there, records-append) (simp append-assoc) in
+      rw e (part-mid (recordsOf q (mapFrom g 0 before)) (recordOf q (g k s)) (recordsOf q (mapFrom g (k + 1) (c .rest)) ++ tail) (k * recordSize q) (recordSize q)
+      (records-size r ok values k bs q) (record-length r q (budgetOf bs k) (g k s) (run-sound r q ok (valuesIn (take (r .arguments) (drop (k * r .arguments) values))) (args-few values k) (budgetOf bs k))))
 
-  its-own : (values : List Word) (args : List Val) (rows B Q N q k : ℕ) (results tail : List Word) → results ≡ recordsOf Q (map (after r Q B) (startsOf r values rows)) ++ tail
-      → B ≡ N → Q ≡ q → valuesIn (take (r .arguments) (drop (k * r .arguments) values)) ≡ args → k < rows → recordAt q k results ≡ recordOf q (after r q N (start r args))
-  its-own values args rows B Q N q k results tail e eN eq ea h = rw (e, ← eN, ← eq, ← ea) (alone values rows B Q k tail h)
+  its-own : (values : List Word) (args : List Val) (rows : ℕ) (bs : Budgets) (Q N q k : ℕ) (results tail : List Word) → results ≡ recordsOf Q (statesOf r values rows bs Q) ++ tail
+      → budgetOf bs k ≡ N → Q ≡ q → valuesIn (take (r .arguments) (drop (k * r .arguments) values)) ≡ args → k < rows → recordAt q k results ≡ recordOf q (after r q N (start r args))
+  its-own values args rows bs Q N q k results tail e eN eq ea h = rw (e, ← eN, ← eq, ← ea) (alone values rows bs Q k tail h)
 
 -- ---- the promises
 
@@ -122,7 +127,15 @@ module _ (plan : List ℕ) (r : Rule) (n : ℕ) (accepted : planned plan ≡ got
   direct N k results c =
       let b = c .batch in
       let e = rw (ap planned (c .plan') ∙ accepted) at (c .ran .result) in
-      its-own r ok (b .values) args (b .rows) (b .budget) (b .quota) N q k results _ e (c .budget) (c .quota) (c .args') (c .within)
+      its-own r ok (b .values) args (b .rows) (b .budgets) (b .quota) N q k results _ e (c .budget) (c .quota) (c .args') (c .within)
+
+  -- an unfinished row has begun as many rounds as its budget says
+  pub spent : (N k : ℕ) (results : List Word) → Called plan r args N q k results → statusOf (recordAt q k results) ≡ pos 0 → roundsOf (recordAt q k results) ≡ pos N
+  spent N k results c z =
+      let e = direct N k results c in
+      let on : goesOn (after r q N (start r args) .finish) ≡ true = eq-eqb (after r q N (start r args) .finish .status) 0 (ap natAbs (sym (ap statusOf e) ∙ z)) in
+      let all : start r args .begun + N ≡ N = omega arith in
+      ap roundsOf e ∙ ap pos (after-begun r q N (start r args) on ∙ all)
 
   labels-are : (words : List Word) (s : State) → words ≡ recordOf q s → labelsOf words ≡ s .labels
   labels-are words s e =

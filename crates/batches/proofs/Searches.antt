@@ -3,23 +3,23 @@ use Prim.Native.Nat.{ℕ, zero, suc, _+_, _-_, _*_, _<_}
 use native.Mathlib.Omega.{arith}
 use mathlib.Core.Path.{_≡_, refl, sym, ap, _∙_}
 use mathlib.Core.Bool.{Bool, true, false, cond}
-use mathlib.Core.List.{List, [], _∷_, _++_, map, append-assoc, map-append}
+use mathlib.Core.List.{List, [], _∷_, _++_, append-assoc}
 use lib.Dec.{eqb}
 use lib.IntN.{pos}
-use lib.ListN.{length, take, drop, length-append, length-map}
+use lib.ListN.{length, take, drop, length-append}
 use lib.Seq.{getD-at}
 use denote.Ref.{RefT}
 use borrow.Author.Tests.{eq-eqb, ne-eqb}
 use Rattle.definitions.specs.Values.{Word, Val, valuesIn}
 use Rattle.definitions.specs.Rule.{Rule}
 use Rattle.definitions.specs.Direct.{State, start, after, goesOn}
-use Rattle.definitions.specs.Batch.{linesFrom, liveOf, startAt, statesOf}
+use Rattle.definitions.specs.Batch.{Budgets, budgetOf, mapFrom, linesFrom, liveOf, startAt, startsOf, statesOf}
 use Rattle.definitions.specs.Finder.{isNumber, isLine, lineIndex, linePart}
 use Rattle.layouts.specs.Layout.{width, lineIn, linesIn}
 use Rattle.finder.proofs.Finds.{if-whole, line-found}
 use Rattle.layouts.proofs.Buffers.{part-mid}
 use Rattle.layouts.proofs.Looks.{line-length}
-use Rattle.tables.proofs.Rows.{lines-append, lines-length, live-length}
+use Rattle.tables.proofs.Rows.{map-append, map-length, lines-append, lines-length, live-length}
 use Rattle.tables.proofs.Starts.{starts-length}
 use Rattle.batches.proofs.Promises.{starts-split}
 
@@ -69,26 +69,30 @@ abbrev pub addressOf : RefT (List Word) → ℕ → ℕ × ℕ
 addressOf s a = (s .ptr .0, a * 4 + s .ptr .1)
 
 -- ---- the line of a row that is unfinished
-module _ (r : Rule) (values : List Word) (rows N q k : ℕ) (one : k < rows) where
+module _ (r : Rule) (values : List Word) (rows : ℕ) (bs : Budgets) (q k : ℕ) (one : k < rows) where
+  abbrev g : ℕ → State → State
+  g n = after r q (budgetOf bs n)
+
   abbrev s : State
-  s = after r q N (startAt r values k)
+  s = g k (startAt r values k)
 
   -- the rows before it
   abbrev earlier : List State
-  earlier = statesOf r values k N q
+  earlier = statesOf r values k bs q
 
   many : length earlier ≡ k
-  many = rw length-map (starts-length r values k)
+  many = map-length g 0 (startsOf r values k) ∙ starts-length r values k
 
-  module _ (work : RefT (List Word)) (tail : List Word) (e : linesIn r 0 (statesOf r values rows N q) ++ tail ≡ work .now) (g : goesOn (s .finish) ≡ true) where
+  module _ (work : RefT (List Word)) (tail : List Word) (e : linesIn r 0 (statesOf r values rows bs q) ++ tail ≡ work .now) (on : goesOn (s .finish) ≡ true) where
     abbrev rest : List Word
-    rest = linesIn r (k + 1) (map (after r q N) (starts-split r values rows k one .rest)) ++ tail
+    rest = linesIn r (k + 1) (mapFrom g (k + 1) (starts-split r values rows k one .rest)) ++ tail
 
     laid : work .now ≡ linesIn r 0 earlier ++ (lineIn r k s ++ rest)
-    unfolding linesFrom
+    unfolding linesFrom mapFrom
     laid =
         let m : 0 + length earlier ≡ k = omega (arith, many) in
-        sym e ∙ rw (starts-split r values rows k one .is, map-append, lines-append r 0 earlier, m, g) (simp append-assoc)
+        let m′ : 0 + length (startsOf r values k) ≡ k = omega (arith, starts-length r values k) in
+        sym e ∙ rw (starts-split r values rows k one .is, map-append g 0 (startsOf r values k) (startAt r values k ∷ starts-split r values rows k one .rest), m′, lines-append r 0 earlier, m, on) (simp append-assoc)
 
     first-line : lineIndex (work .now) (width r) k 0 rows ≡ liveOf earlier
     first-line = search-ends r k s rest (work .now) earlier 0 (omega (arith, many)) 0 rows [] laid (omega arith) (omega (arith, many, live-length earlier)) ∙ omega arith
@@ -100,7 +104,7 @@ module _ (r : Rule) (values : List Word) (rows N q k : ℕ) (one : k < rows) whe
     line-part = sym (line-found work rows (width r) k (liveOf earlier) (sym first-line) (omega (arith, many, live-length earlier))) ∙ ap (λ (x : List Word). (addressOf work (liveOf earlier * width r), x)) line-words
 
 -- the same of a row with these arguments, budget and quota
-pub its-line : (r : Rule) (values : List Word) (args : List Val) (rows B Q N q k : ℕ) (work : RefT (List Word)) (tail : List Word) → linesIn r 0 (statesOf r values rows B Q) ++ tail ≡ work .now
-    → B ≡ N → Q ≡ q → valuesIn (take (r .arguments) (drop (k * r .arguments) values)) ≡ args → k < rows → goesOn (after r q N (start r args) .finish) ≡ true
-    → linePart work rows (width r) k ≡ (addressOf work (liveOf (statesOf r values k N q) * width r), lineIn r k (after r q N (start r args)))
-its-line r values args rows B Q N q k work tail e eN eq ea h = rw (← eN, ← eq, ← ea) (line-part r values rows B Q k h work tail e)
+pub its-line : (r : Rule) (values : List Word) (args : List Val) (rows : ℕ) (bs : Budgets) (Q N q k : ℕ) (work : RefT (List Word)) (tail : List Word) → linesIn r 0 (statesOf r values rows bs Q) ++ tail ≡ work .now
+    → budgetOf bs k ≡ N → Q ≡ q → valuesIn (take (r .arguments) (drop (k * r .arguments) values)) ≡ args → k < rows → goesOn (after r q N (start r args) .finish) ≡ true
+    → linePart work rows (width r) k ≡ (addressOf work (liveOf (statesOf r values k bs q) * width r), lineIn r k (after r q N (start r args)))
+its-line r values args rows bs Q N q k work tail e eN eq ea h = rw (← eN, ← eq, ← ea) (line-part r values rows bs Q k h work tail e)

@@ -148,6 +148,20 @@ module _ (r : Rule) (q : ℕ) where
   after-add n zero s = rw add-zero
   after-add n (suc m) s = rw (add-suc, after-add n m s)
 
+  -- a row that still goes on has begun every round that it might
+  pub after-begun : (n : ℕ) (s : State) → goesOn (after r q n s .finish) ≡ true → after r q n s .begun ≡ s .begun + n
+  unfolding afterFrom
+  after-begun zero s e = omega arith
+  after-begun (suc n) s e = go (goesOn (after r q n s .finish)) refl (after-begun n s)
+    where
+      one-more : (R : Round) (t : State) → joined t R .begun ≡ t .begun + 1
+      one-more (jumped b env ls) t = refl
+      one-more (finished how ls) t = refl
+
+      go : (b : Bool) → goesOn (after r q n s .finish) ≡ b → (goesOn (after r q n s .finish) ≡ true → after r q n s .begun ≡ s .begun + n) → advance r q (after r q n s) .begun ≡ s .begun + suc n
+      go true h before = rw (advance-on (after r q n s) h) (omega (arith, one-more (roundOf r q (after r q n s)) (after r q n s), before h))
+      go false h before = let z : _≡_ {A = Bool} true false = sym e ∙ ap (λ (t : State). goesOn (t .finish)) (advance-done (after r q n s) h) ∙ h in let z′ : _≡_ {A = ℕ} 0 1 = cc in absurd (omega arith)
+
   pub after-done : (n : ℕ) (s : State) → goesOn (s .finish) ≡ false → after r q n s ≡ s
   unfolding afterFrom
   after-done zero s e = refl

@@ -1,7 +1,7 @@
--- 01, A batch: the rows' states, a row's record, the LOOP table, the most rounds.
+-- 01, A batch, with K4 and K10 of 02: the rows' states, a row's record, the LOOP table, the most rounds.
 use Prim.Native.Nat.{ℕ, zero, suc, _+_, _-_, _*_, max}
 use mathlib.Core.Bool.{Bool, cond}
-use mathlib.Core.List.{List, [], _∷_, _++_, map}
+use mathlib.Core.List.{List, [], _∷_, _++_}
 use lib.IntN.{pos}
 use lib.ListN.{length, take, drop, getD, replicate}
 use Rattle.definitions.specs.Values.{Word, Val, valuesIn, wordsOf, unset}
@@ -19,9 +19,24 @@ unfoldable pub startsOf : Rule → List Word → ℕ → List State
 startsOf r values zero = []
 startsOf r values (suc n) = startsOf r values n ++ (startAt r values n ∷ [])
 
--- all rows, each after the direct run's N rounds
-abbrev pub statesOf : Rule → List Word → ℕ → ℕ → ℕ → List State
-statesOf r values rows N q = map (after r q N) (startsOf r values rows)
+-- the rows, numbered from k on, each gone on by the step of its number
+unfoldable pub mapFrom : (ℕ → State → State) → ℕ → List State → List State
+mapFrom g k [] = []
+mapFrom g k (s ∷ ss) = g k s ∷ mapFrom g (k + 1) ss
+
+-- 02, K10: how many rounds the rows may begin: one number for all, or one for each
+pub data Budgets : Type 0 where
+  common : ℕ → Budgets
+  each : List ℕ → Budgets
+
+-- how many row n may begin
+abbrev pub budgetOf : Budgets → ℕ → ℕ
+budgetOf (common N) n = N
+budgetOf (each Ns) n = getD Ns n 0
+
+-- all rows, each after as many of the direct run's rounds as its own budget says
+abbrev pub statesOf : Rule → List Word → ℕ → Budgets → ℕ → List State
+statesOf r values rows bs q = mapFrom (λ n. after r q (budgetOf bs n)) 0 (startsOf r values rows)
 
 -- ---- the result buffer
 
@@ -53,11 +68,14 @@ columnsOf (suc v) f vars = columnsOf v f vars ++ cond (f v) (getD vars v unset �
 
 -- a line's size, with so many columns
 abbrev pub lineSize : ℕ → ℕ
-lineSize columns = 2 + columns
+lineSize columns = 3 + columns
 
--- which row it is, where its next round begins, and what it knows
+-- which row it is, where its next round begins, the rounds begun (02, K10), and what it knows
+abbrev pub lineWords : ℕ → ℕ → ℕ → List Val → List Word
+lineWords row block begun known = pos row ∷ pos block ∷ pos begun ∷ wordsOf known
+
 abbrev pub lineOf : ℕ → (ℕ → Bool) → ℕ → State → List Word
-lineOf v lc row s = pos row ∷ pos (s .block) ∷ wordsOf (columnsOf v lc (s .vars))
+lineOf v lc row s = lineWords row (s .block) (s .begun) (columnsOf v lc (s .vars))
 
 -- the lines of the unfinished rows, in row order; the rows are numbered from k on
 unfoldable pub linesFrom : ℕ → (ℕ → Bool) → ℕ → List State → List Word

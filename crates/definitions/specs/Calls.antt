@@ -1,7 +1,7 @@
 -- 01, Reply numbers, and What the contracts have to say: the calls' contracts. Each gives the reply and every buffer in full, on every input.
-use Prim.Native.Nat.{ℕ, _*_}
+use Prim.Native.Nat.{ℕ, _+_, _*_}
 use mathlib.Core.Path.{_≡_}
-use mathlib.Core.Bool.{cond, not, _||_}
+use mathlib.Core.Bool.{Bool, true, cond, not, _||_}
 use mathlib.Core.List.{List, [], _∷_, _++_}
 use lib.Dec.{eqb, ltb}
 use lib.ListN.{length, drop}
@@ -12,7 +12,7 @@ use Rattle.definitions.specs.Direct.{State}
 use Rattle.definitions.specs.Columns.{flowOf, LC}
 use Rattle.definitions.specs.Plan.{planOf, planned}
 use Rattle.definitions.specs.Pages.{fileOf, unpacked}
-use Rattle.definitions.specs.Batch.{statesOf, recordSize, recordsOf, countTo, lineSize, tableOf, mostOf}
+use Rattle.definitions.specs.Batch.{Budgets, common, each, statesOf, recordSize, recordsOf, countTo, lineSize, tableOf, mostOf}
 use Rattle.definitions.specs.Finder.{mostRows, mostQuota}
 use Rattle.definitions.specs.declared.Refusal.{Refusal}
 use Rattle.definitions.specs.declared.Reply.{Reply}
@@ -62,28 +62,48 @@ pub record Batch : Type 0 where
   pub plan : List ℕ
   pub rows : ℕ
   pub values : List Word
-  pub budget : ℕ
+  pub budgets : Budgets
   pub quota : ℕ
 
 abbrev pub mostBudget : ℕ
 mostBudget = 65535
 
+-- 02, K10: the budgets that a call brings, in the order of the rows that they are for
+abbrev pub brought : Budgets → List ℕ
+brought (common N) = N ∷ []
+brought (each Ns) = Ns
+
+-- whether they are as many as the rows; one for all always is
+abbrev pub asMany : ℕ → Budgets → Bool
+asMany rows (common N) = true
+asMany rows (each Ns) = eqb (length Ns) rows
+
+-- the place of the first budget over the limit, or how many there are
+unfoldable pub firstOver : List ℕ → ℕ
+firstOver [] = 0
+firstOver (N ∷ Ns) = cond (ltb mostBudget N) 0 (1 + firstOver Ns)
+
+abbrev pub someOver : List ℕ → Bool
+someOver Ns = ltb (firstOver Ns) (length Ns)
+
 -- the rows that the direct run of the plan's rule leaves
 abbrev pub rowsOf : Batch → Rule → List State
-rowsOf b r = statesOf r (b .values) (b .rows) (b .budget) (b .quota)
+rowsOf b r = statesOf r (b .values) (b .rows) (b .budgets) (b .quota)
 
 -- the columns of a line
 abbrev pub columns : Rule → ℕ
 columns r = countTo (r .variables) (LC (flowOf r))
 
--- 13, 14, then 12 for the output and 12 for the working buffer; the answer is the most rounds that any row began
+-- 13, 14 for the quota, 14 for the lowest row with too high a budget, then 12 for the output and 12 for the working buffer; the answer is the most rounds
+-- that any row began
 unfoldable pub ranReply : Batch → Rule → ℕ → ℕ → Reply
 ranReply b r outRoom workRoom =
-    cond (ltb mostRows (b .rows) || not (eqb (length (b .values)) (b .rows * r .arguments))) (refusal 13 0)
-    (cond (ltb mostBudget (b .budget) || ltb mostQuota (b .quota)) (refusal 14 0)
+    cond (ltb mostRows (b .rows) || (not (eqb (length (b .values)) (b .rows * r .arguments)) || not (asMany (b .rows) (b .budgets)))) (refusal 13 0)
+    (cond (ltb mostQuota (b .quota)) (refusal 14 0)
+    (cond (someOver (brought (b .budgets))) (refusal 14 (firstOver (brought (b .budgets))))
     (cond (ltb outRoom (b .rows * recordSize (b .quota))) (refusal 12 0)
     (cond (ltb workRoom (b .rows * lineSize (columns r))) (refusal 12 1)
-    (Done (mostOf (rowsOf b r))))))
+    (Done (mostOf (rowsOf b r)))))))
 
 -- 15 comes first
 unfoldable pub runReply : Batch → Got Rule → ℕ → ℕ → Reply

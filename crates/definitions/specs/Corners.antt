@@ -19,9 +19,9 @@ use Rattle.definitions.specs.Spelling.{exprBytes, condBytes, stmtBytes, 
 use Rattle.definitions.specs.Columns.{flowOver, flowOf, ledTo, J, some, reads, looks, endLooks, readFirst, sets, goesTo, jumpsTo, outputs, from, grown, growths, closure, inputsOf, outputsOf}
 use Rattle.definitions.specs.Plan.{maskOf, entryOf, entriesTo, planBy, planOf, same, planned, asPlan}
 use Rattle.definitions.specs.Pages.{lengthIn, wordSum, checkOf, pageBody, pageOf, pagesTo, fileOf, sizeOk, allZero, lengthOk, pageAt, payloadTo, unpacked}
-use Rattle.definitions.specs.Batch.{startsOf, statesOf, recordOf, recordsOf, countTo, columnsOf, linesFrom, liveOf, mostOf}
+use Rattle.definitions.specs.Batch.{Budgets, common, each, startsOf, mapFrom, statesOf, recordOf, recordsOf, countTo, columnsOf, linesFrom, liveOf, mostOf}
 use Rattle.definitions.specs.Finder.{isNumber, lineIndex, linePart, foundIn}
-use Rattle.definitions.specs.Calls.{Batch, refusal, left, toRead, toWrite, toCompile, replyIn, ranReply, runReply, recordsIn, tableIn}
+use Rattle.definitions.specs.Calls.{Batch, refusal, left, toRead, toWrite, toCompile, replyIn, firstOver, ranReply, runReply, recordsIn, tableIn}
 use Rattle.definitions.specs.Examples.{R, planR, smallest, ran, row, words, minus, All}
 use Rattle.definitions.specs.declared.Reply.{Reply}
 use Rattle.definitions.specs.declared.Reply.the-variants.{Done}
@@ -90,12 +90,19 @@ branch rest = 0x33 ∷ 0x11 ∷ 0x02 ∷ 0x00 ∷ 0x02 ∷ 0x00 ∷ rest
 abbrev smallestPlan : List ℕ
 smallestPlan = 0x01 ∷ 0x01 ∷ 0x00 ∷ 0x01 ∷ 0 ∷ 0 ∷ 14 ∷ 0 ∷ 0 ∷ 0 ∷ 0 ∷ 0 ∷ 1 ∷ 0 ∷ drop 4 smallest
 
-abbrev asked : ℕ → ℕ → ℕ → ℕ → ℕ → Reply
-asked rows budget q out work = runReply (record { plan = smallestPlan; rows = rows; values = []; budget = budget; quota = q }) (planned smallestPlan) out work
+abbrev askedBy : Budgets → ℕ → ℕ → ℕ → ℕ → Reply
+askedBy budgets rows q out work = runReply (record { plan = smallestPlan; rows = rows; values = []; budgets = budgets; quota = q }) (planned smallestPlan) out work
 
--- rows of R, with budget 2 and quota 4
+abbrev asked : ℕ → ℕ → ℕ → ℕ → ℕ → Reply
+asked rows budget q out work = askedBy (common budget) rows q out work
+
+-- rows of R, with quota 4
+abbrev rowsBy : Budgets → List Word → Batch
+rowsBy budgets values = record { plan = planR; rows = length values; values = values; budgets = budgets; quota = 4 }
+
+-- with budget 2
 abbrev rows : List Word → Batch
-rows values = record { plan = planR; rows = length values; values = values; budget = 2; quota = 4 }
+rows values = rowsBy (common 2) values
 
 -- a buffer in memory, and the words that the finder gives
 abbrev buffer : ℕ → List Word → RefT (List Word)
@@ -253,33 +260,35 @@ files-hold =
 pub ofBatch : List (Type 0)
 ofBatch =
     -- 32: a row that has ended begins no further round
-    (ran (row 9 4) ≡ (Done 3, (words (1 ∷ 3 ∷ 2 ∷ 0 ∷ 2 ∷ 3 ∷ 0 ∷ 0 ∷ []), words (0 ∷ 0 ∷ 0 ∷ 0 ∷ []))))
+    (ran (row 9 4) ≡ (Done 3, (words (1 ∷ 3 ∷ 2 ∷ 0 ∷ 2 ∷ 3 ∷ 0 ∷ 0 ∷ []), words (replicate 5 0))))
     -- 33: rows 2, 0, -5, as the program has them: each row has its own labels, and the most rounds are no sum
-    ∷ (ran (rows (pos 2 ∷ pos 0 ∷ minus 5 ∷ [])) ≡ (Done 2, (words (0 ∷ 2 ∷ 1 ∷ 0 ∷ 2 ∷ 0 ∷ 0 ∷ 0 ∷ 1 ∷ 1 ∷ 2 ∷ 0 ∷ 0 ∷ 0 ∷ 0 ∷ 0 ∷ []) ++ (pos 1 ∷ pos 1 ∷ pos 2 ∷ pos 0 ∷ minus 5 ∷ words (0 ∷ 0 ∷ 0 ∷ [])), words (0 ∷ 1 ∷ 0 ∷ 3 ∷ replicate 8 0))))
+    ∷ (ran (rows (pos 2 ∷ pos 0 ∷ minus 5 ∷ [])) ≡ (Done 2, (words (0 ∷ 2 ∷ 1 ∷ 0 ∷ 2 ∷ 0 ∷ 0 ∷ 0 ∷ 1 ∷ 1 ∷ 2 ∷ 0 ∷ 0 ∷ 0 ∷ 0 ∷ 0 ∷ []) ++ (pos 1 ∷ pos 1 ∷ pos 2 ∷ pos 0 ∷ minus 5 ∷ words (0 ∷ 0 ∷ 0 ∷ [])), words (0 ∷ 1 ∷ 2 ∷ 0 ∷ 3 ∷ replicate 10 0))))
     -- 34: a line has its row's number; no rows began no rounds
-    ∷ ((tableIn (rows (pos 0 ∷ pos 2 ∷ [])) (planned planR) ≡ words (1 ∷ 1 ∷ 0 ∷ 3 ∷ replicate 4 0)) × (ran (rows []) ≡ (Done 0, ([], []))))
+    ∷ ((tableIn (rows (pos 0 ∷ pos 2 ∷ [])) (planned planR) ≡ words (1 ∷ 1 ∷ 2 ∷ 0 ∷ 3 ∷ replicate 5 0)) × (ran (rows []) ≡ (Done 0, ([], []))))
     -- 35: a row's fault leaves the row after it alone
-    ∷ (recordsOf 1 (statesOf divides (pos 0 ∷ pos 3 ∷ []) 2 1 1) ≡ words (2 ∷ 1 ∷ 0 ∷ 5 ∷ 0 ∷ 1 ∷ 1 ∷ 1 ∷ 0 ∷ 2 ∷ []))
+    ∷ (recordsOf 1 (statesOf divides (pos 0 ∷ pos 3 ∷ []) 2 (common 1) 1) ≡ words (2 ∷ 1 ∷ 0 ∷ 5 ∷ 0 ∷ 1 ∷ 1 ∷ 1 ∷ 0 ∷ 2 ∷ []))
+    -- 44: arguments 2 and 2 under budgets 2 and 3: the first row is unfinished, the second has ended
+    ∷ (ran (rowsBy (each (2 ∷ 3 ∷ [])) (pos 2 ∷ pos 2 ∷ [])) ≡ (Done 3, (words (0 ∷ 2 ∷ 1 ∷ 0 ∷ 2 ∷ 0 ∷ 0 ∷ 0 ∷ 1 ∷ 3 ∷ 2 ∷ 0 ∷ 2 ∷ 3 ∷ 0 ∷ 0 ∷ []), words (0 ∷ 1 ∷ 2 ∷ 0 ∷ 3 ∷ replicate 5 0))))
     ∷ []
 
 pub batch-hold : All ofBatch
 unfolding ofBatch twos exprAt condAt endAt blockFrom blocksTo headed ruleOf
     settled quotient eval holds step steps exit walk advanceFrom afterFrom exprBytes condBytes stmtBytes endBytes inTurn blockBytes
     some reads looks endLooks readFirst sets goesTo jumpsTo outputs from grown growths closure ledTo inputsOf maskOf entryOf entriesTo planBy same planned
-    startsOf recordsOf countTo columnsOf linesFrom liveOf mostOf ranReply runReply recordsIn tableIn
+    startsOf mapFrom recordsOf countTo columnsOf linesFrom liveOf mostOf firstOver ranReply runReply recordsIn tableIn
 batch-hold =
-    (refl, (refl, ((refl, refl), (refl, tt))))
+    (refl, (refl, ((refl, refl), (refl, (refl, tt)))))
 
 -- ---- the finder
 
 pub ofFinder : List (Type 0)
 ofFinder =
     -- 36: a record; of two lines the first; where a line lies
-    ((found three (words (1 ∷ 5 ∷ 1 ∷ 6 ∷ [])) 3 0 0 0 ≡ words (1 ∷ 1 ∷ 0 ∷ 0 ∷ [])) × (found three (words (1 ∷ 5 ∷ 1 ∷ 6 ∷ [])) 3 0 0 1 ≡ words (1 ∷ 5 ∷ [])) × (foundIn (buffer 1 three) (buffer 2 (words (1 ∷ 5 ∷ 2 ∷ 6 ∷ []))) 3 0 0 2 ≡ ((2, 8), words (2 ∷ 6 ∷ []))))
+    ((found three (words (1 ∷ 5 ∷ 1 ∷ 1 ∷ 6 ∷ 1 ∷ [])) 3 0 0 0 ≡ words (1 ∷ 1 ∷ 0 ∷ 0 ∷ [])) × (found three (words (1 ∷ 5 ∷ 1 ∷ 1 ∷ 6 ∷ 1 ∷ [])) 3 0 0 1 ≡ words (1 ∷ 5 ∷ 1 ∷ [])) × (foundIn (buffer 1 three) (buffer 2 (words (1 ∷ 5 ∷ 1 ∷ 2 ∷ 6 ∷ 1 ∷ []))) 3 0 0 2 ≡ ((2, 12), words (2 ∷ 6 ∷ 1 ∷ []))))
     -- 37: the empty part: no such row, no line, no whole line, too short a result
-    ∷ ((found three [] 0 0 0 0 ≡ []) × (found three (words (1 ∷ 5 ∷ [])) 3 0 0 2 ≡ []) × (found three (words (2 ∷ [])) 3 0 0 2 ≡ []) × (found three [] 3 1 0 0 ≡ []))
+    ∷ ((found three [] 0 0 0 0 ≡ []) × (found three (words (1 ∷ 5 ∷ 1 ∷ [])) 3 0 0 2 ≡ []) × (found three (words (2 ∷ 6 ∷ [])) 3 0 0 2 ≡ []) × (found three [] 3 1 0 0 ≡ []))
     -- 38: 256 rows, quota 16 and 16 columns, and one more of each
-    ∷ ((found (replicate 1028 (pos 1)) [] 256 0 0 0 ≡ words (1 ∷ 1 ∷ 1 ∷ 1 ∷ [])) × (found (replicate 1028 (pos 1)) [] 257 0 0 0 ≡ []) × (found (replicate 21 (pos 1)) [] 1 16 0 0 ≡ replicate 20 (pos 1)) × (found (replicate 21 (pos 1)) [] 1 17 0 0 ≡ []) × (found (words (0 ∷ 0 ∷ 0 ∷ 0 ∷ [])) (replicate 19 (pos 0)) 1 0 16 0 ≡ replicate 18 (pos 0)) × (found (words (0 ∷ 0 ∷ 0 ∷ 0 ∷ [])) (replicate 19 (pos 0)) 1 0 17 0 ≡ []))
+    ∷ ((found (replicate 1028 (pos 1)) [] 256 0 0 0 ≡ words (1 ∷ 1 ∷ 1 ∷ 1 ∷ [])) × (found (replicate 1028 (pos 1)) [] 257 0 0 0 ≡ []) × (found (replicate 21 (pos 1)) [] 1 16 0 0 ≡ replicate 20 (pos 1)) × (found (replicate 21 (pos 1)) [] 1 17 0 0 ≡ []) × (found (words (0 ∷ 0 ∷ 0 ∷ 0 ∷ [])) (replicate 20 (pos 0)) 1 0 16 0 ≡ replicate 19 (pos 0)) × (found (words (0 ∷ 0 ∷ 0 ∷ 0 ∷ [])) (replicate 20 (pos 0)) 1 0 17 0 ≡ []))
     ∷ []
 
 pub finder-hold : All ofFinder
@@ -296,9 +305,12 @@ ofReplies =
     -- 40: what is written, with just enough room and one byte less: 12 at 0
     ∷ ((toRead (fileOf R) ≡ got R 45) × (toCompile (fileOf R) ≡ got planR 45) × (replyIn 512 (toWrite R) ≡ Done 512) × (replyIn 511 (toWrite R) ≡ refusal 12 0))
     -- 41: running: up to 256 rows, budget 65535 and quota 16, and as many values as the rows take
-    ∷ ((asked 256 65535 16 0 0 ≡ refusal 12 0) × (asked 257 0 0 0 0 ≡ refusal 13 0) × (asked 1 65536 0 0 0 ≡ refusal 14 0) × (asked 1 0 17 0 0 ≡ refusal 14 0) × (runReply (record { plan = planR; rows = 2; values = pos 1 ∷ []; budget = 0; quota = 0 }) (planned planR) 100 100 ≡ refusal 13 0))
+    ∷ ((asked 256 65535 16 0 0 ≡ refusal 12 0) × (asked 257 0 0 0 0 ≡ refusal 13 0) × (asked 1 65536 0 0 0 ≡ refusal 14 0) × (asked 1 0 17 0 0 ≡ refusal 14 0) × (runReply (record { plan = planR; rows = 2; values = pos 1 ∷ []; budgets = common 0; quota = 0 }) (planned planR) 100 100 ≡ refusal 13 0))
     -- 42: running: 15, 13, 14, 12 for the output, 12 for the working buffer
-    ∷ ((runReply (record { plan = []; rows = 257; values = []; budget = 65536; quota = 17 }) (planned []) 0 0 ≡ refusal 15 0) × (asked 257 65536 17 0 0 ≡ refusal 13 0) × (asked 256 65536 17 0 0 ≡ refusal 14 0) × (asked 1 1 0 3 0 ≡ refusal 12 0) × (asked 1 1 0 4 1 ≡ refusal 12 1) × (asked 1 1 0 4 2 ≡ Done 1))
+    ∷ ((runReply (record { plan = []; rows = 257; values = []; budgets = common 65536; quota = 17 }) (planned []) 0 0 ≡ refusal 15 0) × (asked 257 65536 17 0 0 ≡ refusal 13 0) × (asked 256 65536 17 0 0 ≡ refusal 14 0) × (asked 1 1 0 3 0 ≡ refusal 12 0) × (asked 1 1 0 4 2 ≡ refusal 12 1) × (asked 1 1 0 4 3 ≡ Done 1))
+    -- 45: with a budget for each row: 13 unless they are as many, also for none; 14 at 0 for the quota, then at the lowest row whose budget is too high
+    ∷ ((askedBy (each (1 ∷ [])) 2 17 100 100 ≡ refusal 13 0) × (askedBy (each (1 ∷ 1 ∷ 1 ∷ [])) 2 0 100 100 ≡ refusal 13 0) × (askedBy (each []) 0 0 0 0 ≡ Done 0) × (askedBy (each (1 ∷ 65536 ∷ 65536 ∷ [])) 3 17 0 0 ≡ refusal 14 0)
+    × (askedBy (each (65535 ∷ 65536 ∷ 65536 ∷ [])) 3 16 0 0 ≡ refusal 14 1) × (askedBy (each (1 ∷ 0 ∷ [])) 2 0 8 6 ≡ Done 1) × (asked 0 65536 0 0 0 ≡ refusal 14 0))
     -- 43: a refusal changes no buffer, and what lies beyond the written part stays
     ∷ ((left (refusal 12 0) (words (1 ∷ 2 ∷ [])) (words (7 ∷ 8 ∷ 9 ∷ [])) ≡ words (7 ∷ 8 ∷ 9 ∷ [])) × (left (Done 2) (words (1 ∷ 2 ∷ [])) (words (7 ∷ 8 ∷ 9 ∷ [])) ≡ words (1 ∷ 2 ∷ 9 ∷ [])))
     ∷ []
@@ -306,6 +318,6 @@ ofReplies =
 pub replies-hold : All ofReplies
 unfolding ofReplies twos exprAt condAt endAt blockFrom blocksTo headed ruleOf
     steps exit walk advanceFrom afterFrom exprBytes condBytes stmtBytes endBytes inTurn blockBytes some reads looks endLooks readFirst sets goesTo jumpsTo outputs from grown growths closure ledTo inputsOf maskOf entryOf entriesTo planBy same planned
-    lengthIn wordSum checkOf pageBody pageOf pagesTo fileOf allZero lengthOk pageAt payloadTo unpacked startsOf countTo mostOf toRead toWrite toCompile replyIn ranReply runReply
+    lengthIn wordSum checkOf pageBody pageOf pagesTo fileOf allZero lengthOk pageAt payloadTo unpacked startsOf mapFrom countTo mostOf toRead toWrite toCompile replyIn firstOver ranReply runReply
 replies-hold =
-    ((refl, refl), ((refl, refl, refl, refl), ((refl, refl, refl, refl, refl), ((refl, refl, refl, refl, refl, refl), ((refl, refl), tt)))))
+    ((refl, refl), ((refl, refl, refl, refl), ((refl, refl, refl, refl, refl), ((refl, refl, refl, refl, refl, refl), ((refl, refl, refl, refl, refl, refl, refl), ((refl, refl), tt))))))

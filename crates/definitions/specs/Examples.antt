@@ -15,8 +15,8 @@ use Rattle.definitions.specs.Direct.{State, unfinished, step, steps, exi
 use Rattle.definitions.specs.Columns.{some, reads, endLooks, readFirst, sets, goesTo, jumpsTo, outputs, from, grown, growths, closure, ledTo, inputsOf}
 use Rattle.definitions.specs.Plan.{maskOf, entryOf, entriesTo, planBy, planOf, same, planned}
 use Rattle.definitions.specs.Pages.{wordSum, checkOf, pageBody, pageOf, pagesTo, fileOf, allZero, lengthOk, pageAt, payloadTo, unpacked}
-use Rattle.definitions.specs.Batch.{startsOf, recordsOf, countTo, columnsOf, linesFrom, liveOf, mostOf}
-use Rattle.definitions.specs.Calls.{Batch, refusal, toCompile, toWrite, ranReply, runReply, recordsIn, tableIn}
+use Rattle.definitions.specs.Batch.{common, startsOf, mapFrom, recordsOf, countTo, columnsOf, linesFrom, liveOf, mostOf}
+use Rattle.definitions.specs.Calls.{Batch, refusal, toCompile, toWrite, firstOver, ranReply, runReply, recordsIn, tableIn}
 use Rattle.definitions.specs.declared.Reply.{Reply}
 use Rattle.definitions.specs.declared.Reply.the-variants.{Done}
 use Rattle.definitions.specs.declared.Kind.the-variants.{OutOfRange}
@@ -62,7 +62,7 @@ planFor s = then (ruleOf s) (λ r n. got (planOf r s) n)
 
 -- one row of rule R
 abbrev pub row : ℕ → ℕ → Batch
-row budget q = record { plan = planR; rows = 1; values = pos 2 ∷ []; budget = budget; quota = q }
+row budget q = record { plan = planR; rows = 1; values = pos 2 ∷ []; budgets = common budget; quota = q }
 
 -- a run: its reply, its records and its table, where there is room enough
 abbrev pub ran : Batch → Reply × (List Word × List Word)
@@ -105,11 +105,11 @@ examples =
     -- E2: LC, inputs, outputs, J, bodies and size, all in the plan's bytes
     ∷ ((planFor R ≡ got planR 45) × (length planR ≡ 79))
     -- E3: argument 2, budget 2, quota 4
-    ∷ (ran (row 2 4) ≡ (Done 2, (words (0 ∷ 2 ∷ 1 ∷ 0 ∷ 2 ∷ 0 ∷ 0 ∷ 0 ∷ []), words (0 ∷ 1 ∷ 0 ∷ 3 ∷ []))))
+    ∷ (ran (row 2 4) ≡ (Done 2, (words (0 ∷ 2 ∷ 1 ∷ 0 ∷ 2 ∷ 0 ∷ 0 ∷ 0 ∷ []), words (0 ∷ 1 ∷ 2 ∷ 0 ∷ 3 ∷ []))))
     -- E4: the same with budget 3
-    ∷ (ran (row 3 4) ≡ (Done 3, (words (1 ∷ 3 ∷ 2 ∷ 0 ∷ 2 ∷ 3 ∷ 0 ∷ 0 ∷ []), words (0 ∷ 0 ∷ 0 ∷ 0 ∷ []))))
+    ∷ (ran (row 3 4) ≡ (Done 3, (words (1 ∷ 3 ∷ 2 ∷ 0 ∷ 2 ∷ 3 ∷ 0 ∷ 0 ∷ []), words (0 ∷ 0 ∷ 0 ∷ 0 ∷ 0 ∷ []))))
     -- E5: budget 0
-    ∷ (ran (row 0 4) ≡ (Done 0, (words (0 ∷ 0 ∷ 0 ∷ 0 ∷ 0 ∷ 0 ∷ 0 ∷ 0 ∷ []), words (0 ∷ 0 ∷ 2 ∷ 0 ∷ []))))
+    ∷ (ran (row 0 4) ≡ (Done 0, (words (0 ∷ 0 ∷ 0 ∷ 0 ∷ 0 ∷ 0 ∷ 0 ∷ 0 ∷ []), words (0 ∷ 0 ∷ 0 ∷ 2 ∷ 0 ∷ []))))
     -- E6: -7 by 2
     ∷ ((quotient (minus 7) (pos 2) ≡ value (minus 3)) × (remainder (minus 7) (pos 2) ≡ value (minus 1)))
     -- E7: the least value by -1
@@ -119,7 +119,7 @@ examples =
     -- E9: a guarded division by 0 does not fault
     ∷ (then (exprAt 8 0 guarded 0) (λ e n. got (eval e (atByte 0) []) n) ≡ got (value (number (pos 5))) 28)
     -- E10: with quota 0 the fault of an emit's expression comes first
-    ∷ (ran (record { plan = emitsFaultPlan; rows = 1; values = []; budget = 1; quota = 0 }) ≡ (Done 1, (words (2 ∷ 1 ∷ 0 ∷ 5 ∷ []), words (0 ∷ 0 ∷ []))))
+    ∷ (ran (record { plan = emitsFaultPlan; rows = 1; values = []; budgets = common 1; quota = 0 }) ≡ (Done 1, (words (2 ∷ 1 ∷ 0 ∷ 5 ∷ []), words (0 ∷ 0 ∷ 0 ∷ []))))
     -- E11: the smallest rule, and without its last byte
     ∷ ((length smallest ≡ 5) × (then (ruleOf smallest) (λ r n. got n n) ≡ got 5 5) × (toWrite (take 4 smallest) ≡ refused 9 4))
     -- E12: a goto to its own block; with a jump it is accepted, and unfinished under every budget
@@ -142,8 +142,8 @@ endless-after q (suc n) = rw (endless-after q n) (ap (λ k. record { finish = un
 pub examples-hold : All examples
 unfolding examples settled quotient remainder twos exprAt endAt blockFrom blocksTo headed ruleOf eval step steps exit walk advanceFrom afterFrom exprBytes condBytes stmtBytes endBytes inTurn blockBytes
     some reads endLooks readFirst sets goesTo jumpsTo outputs from grown growths closure ledTo inputsOf maskOf entryOf entriesTo planBy same planned
-    wordSum checkOf pageBody pageOf pagesTo fileOf startsOf recordsOf countTo columnsOf linesFrom liveOf mostOf
-    toWrite ranReply runReply recordsIn tableIn
+    wordSum checkOf pageBody pageOf pagesTo fileOf startsOf mapFrom recordsOf countTo columnsOf linesFrom liveOf mostOf
+    toWrite firstOver ranReply runReply recordsIn tableIn
 examples-hold =
     ((refl, refl), ((refl, refl), (refl, (refl, (refl, ((refl, refl), ((refl, refl, refl), ((refl, refl), (refl, (refl, ((refl, refl, refl), ((refl, refl, λ q n. ap (λ s. s .finish .status) (endless-after q n)), tt))))))))))))
 

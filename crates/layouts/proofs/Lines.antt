@@ -16,7 +16,7 @@ use Rattle.buffers.specs.Words.{over}
 use Rattle.buffers.proofs.Laws.{over-set, over-next, over-pair, length-over}
 use Rattle.definitions.specs.Values.{Word, Val, asWord, valuesIn, wordsOf, unset}
 use Rattle.definitions.specs.Grammar.{mostVariables}
-use Rattle.definitions.specs.Batch.{recordSize, countTo, columnsOf}
+use Rattle.definitions.specs.Batch.{recordSize, lineSize, countTo, columnsOf}
 use Rattle.definitions.specs.Finder.{mostRows, mostQuota}
 use Rattle.definitions.specs.Calls.{mostBudget}
 use Rattle.definitions.proofs.Values.{words-length, words-append, value-at, values-set}
@@ -80,21 +80,26 @@ module _ (f : ℕ → Bool) where
 
 -- ---- what the stores of a line and of a record leave
 
-pub line-law : (d : List Word) (at row block : ℕ) (cols d' : List Word) → row < mostRows → block < 256 → at + 2 ≤ length d
-    → d' ≡ over (set (set d at (toZ w32 row)) (at + 1) (toZ w32 block)) (at + 2) cols → d' ≡ over d at (pos row ∷ pos block ∷ cols)
-line-law d at row block cols d' hr hb h e =
-    let w1 : toZ w32 row ≡ pos row = toZ-pos w32 (omega arith) in
-    let w2 : toZ w32 block ≡ pos block = toZ-pos w32 (omega arith) in
-    e ∙ rw (w1, w2, over-pair d at (pos row) (pos block) h) (over-next d at (pos row ∷ pos block ∷ []) (at + 2) cols refl (omega arith))
-
 -- a store right after a write
 store-next : (d : List Word) (at : ℕ) (s : List Word) (n : ℕ) (x : Word) → n ≡ at + length s → n < length d → set (over d at s) n x ≡ over d at (s ++ (x ∷ []))
 store-next d at s n x e h = over-set (over d at s) n x (omega (arith, length-over d at s (omega arith))) ∙ over-next d at s n (x ∷ []) e (omega arith)
 
+-- three stores, one after the other
+three : (d : List Word) (at : ℕ) (a b c : Word) → at + 3 ≤ length d → set (set (set d at a) (at + 1) b) (at + 2) c ≡ over d at (a ∷ b ∷ c ∷ [])
+three d at a b c h = rw (over-pair d at a b (omega arith)) (store-next d at (a ∷ b ∷ []) (at + 2) c refl (omega arith))
+
+pub line-law : (d : List Word) (at row block begun : ℕ) (cols d' : List Word) → row < mostRows → block < 256 → begun ≤ mostBudget → at + lineSize 0 ≤ length d
+    → d' ≡ over (set (set (set d at (toZ w32 row)) (at + 1) (toZ w32 block)) (at + 2) (toZ w32 begun)) (at + lineSize 0) cols → d' ≡ over d at (pos row ∷ pos block ∷ pos begun ∷ cols)
+line-law d at row block begun cols d' hr hb hg h e =
+    let w1 : toZ w32 row ≡ pos row = toZ-pos w32 (omega arith) in
+    let w2 : toZ w32 block ≡ pos block = toZ-pos w32 (omega arith) in
+    let w3 : toZ w32 begun ≡ pos begun = toZ-pos w32 (omega arith) in
+    e ∙ rw (w1, w2, w3, three d at (pos row) (pos block) (pos begun) (omega arith)) (over-next d at (pos row ∷ pos block ∷ pos begun ∷ []) (at + lineSize 0) cols refl (omega arith))
+
 -- a record's words before its labels
 head : (d : List Word) (at : ℕ) (a b c p : Word) → at + recordSize 0 ≤ length d → set (set (set (set d at a) (at + 1) b) (at + 2) c) (at + 3) p ≡ over d at (a ∷ b ∷ c ∷ p ∷ [])
 head d at a b c p h =
-    rw (over-pair d at a b (omega arith), store-next d at (a ∷ b ∷ []) (at + 2) c refl (omega arith)) (store-next d at (a ∷ b ∷ c ∷ []) (at + 3) p refl (omega arith))
+    rw (three d at a b c (omega arith)) (store-next d at (a ∷ b ∷ c ∷ []) (at + 3) p refl (omega arith))
 
 pub record-law : (d : List Word) (at status begun count place : ℕ) (labels zeros d' d'' : List Word) → status < 256 → begun ≤ mostBudget → count ≤ mostQuota → place < 65536 → length labels ≡ count → at + recordSize 0 + count ≤ length d
     → d' ≡ over (set (set (set (set d at (toZ w32 status)) (at + 1) (toZ w32 begun)) (at + 2) (toZ w32 count)) (at + 3) (toZ w32 place)) (at + recordSize 0) labels → d'' ≡ over d' (at + recordSize 0 + count) zeros

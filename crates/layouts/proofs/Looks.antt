@@ -15,7 +15,7 @@ use Rattle.definitions.specs.Grammar.{mostVariables}
 use Rattle.definitions.specs.Columns.{flowOf, LC}
 use Rattle.definitions.specs.Plan.{bitOf}
 use Rattle.definitions.specs.Direct.{State}
-use Rattle.definitions.specs.Batch.{recordSize, recordOf, countTo, columnsOf}
+use Rattle.definitions.specs.Batch.{recordSize, recordOf, lineSize, countTo, columnsOf}
 use Rattle.definitions.specs.Finder.{mostRows, mostQuota}
 use Rattle.definitions.proofs.Values.{words-length, value-at, word-at}
 use Rattle.definitions.proofs.Masks.{read-back, mask-count}
@@ -124,7 +124,7 @@ module _ {l : Layout} {from : ℕ} {out work : List Word} (p : SomeRowAt l from 
           rw at-place (part-part out (pos (s .finish .status) ∷ pos (s .begun) ∷ pos (length (s .labels)) ∷ pos (s .finish .place) ∷ []) (wordsOf (s .labels)) (replicate (q - length (s .labels)) (pos 0)) place (recordSize q) (recordSize 0) count (p .at .record') refl (words-length (s .labels) ∙ sym (c ∙ ap natAbs get-count)))
 
   -- the columns of the line are those of the row's variables
-  pub get-vars : (vars : List Word) → valuesIn vars ≡ spread (l .variables) (bitOf (l .lc)) (valuesIn (drop (from + 2) work)) → Alike (p .rule .variables) (LC (flowOf (p .rule))) (p .at .state .vars) (valuesIn vars)
+  pub get-vars : (vars : List Word) → valuesIn vars ≡ spread (l .variables) (bitOf (l .lc)) (valuesIn (drop (from + lineSize 0) work)) → Alike (p .rule .variables) (LC (flowOf (p .rule))) (p .at .state .vars) (valuesIn vars)
   get-vars vars e =
       let r = p .rule in
       let s = p .at .state in
@@ -132,18 +132,18 @@ module _ {l : Layout} {from : ℕ} {out work : List Word} (p : SomeRowAt l from 
       let few = p .known .proper .few in
       record {
         left = omega (arith, p .at .sound .vars-all);
-        right = rw e (omega (arith, spread-length (bitOf (l .lc)) (valuesIn (drop (from + 2) work)) (l .variables), few));
+        right = rw e (omega (arith, spread-length (bitOf (l .lc)) (valuesIn (drop (from + lineSize 0) work)) (l .variables), few));
         same = λ k h t.
             let c = count-before k (r .variables) f h t in
-            let a : from + 2 + countTo k f ≡ from + (2 + countTo k f) = omega arith in
+            let a : from + lineSize 0 + countTo k f ≡ from + (lineSize 0 + countTo k f) = omega arith in
             let cols = columnsOf (r .variables) f (s .vars) in
-            let rest = drop (from + 2) work in
+            let rest = drop (from + lineSize 0) work in
             let place = countTo k (bitOf (l .lc)) in
             let there : getD (wordsOf cols) (countTo k f) (pos 0) ≡ getD rest place (pos 0) =
-            sym (getD-append-add (pos (p .at .row) ∷ pos (s .block) ∷ []) (wordsOf cols) (countTo k f) (pos 0))
-            ∙ sym (get-line (2 + countTo k f) (omega arith))
+            sym (getD-append-add (pos (p .at .row) ∷ pos (s .block) ∷ pos (s .begun) ∷ []) (wordsOf cols) (countTo k f) (pos 0))
+            ∙ sym (get-line (lineSize 0 + countTo k f) (omega arith))
             ∙ ap (λ (i : ℕ). getD work i (pos 0)) (sym a)
-            ∙ sym (getD-drop (from + 2) work place (pos 0) ∙ ap (λ (i : ℕ). getD work (from + 2 + i) (pos 0)) (mask-place (p .known) k (omega arith))) in
+            ∙ sym (getD-drop (from + lineSize 0) work place (pos 0) ∙ ap (λ (i : ℕ). getD work (from + lineSize 0 + i) (pos 0)) (mask-place (p .known) k (omega arith))) in
             sym (columns-at f (r .variables) k (s .vars) h t) ∙ sym (word-at cols (countTo k f)) ∙ ap number there ∙ sym (value-at rest place)
             ∙ sym (rw (e, p .known .variables) (spread-at (bitOf (l .lc)) (valuesIn rest) (r .variables) k few h (mask-at (p .known) k h ∙ t)));
       }

@@ -8,7 +8,7 @@ ghost use lib.Signed.{nonNeg};
 ghost use lib.ListN.{length, getD, take, drop, replicate};
 ghost use Rattle.buffers.specs.Words.{over};
 ghost use Rattle.definitions.specs.Values.{valuesIn, wordsOf};
-ghost use Rattle.definitions.specs.Batch.{recordSize, recordWords, lineSize, countTo, columnsOf};
+ghost use Rattle.definitions.specs.Batch.{recordSize, recordWords, lineSize, lineWords, countTo, columnsOf};
 ghost use Rattle.definitions.specs.Finder.{mostRows, mostQuota, mostColumns};
 ghost use Rattle.definitions.specs.Calls.{mostBudget};
 ghost use Rattle.definitions.specs.Plan.{bitOf};
@@ -34,7 +34,7 @@ pub struct Layout {
 // A record's numbers before its labels, and a line's before its columns.
 const RECORD_HEAD: usize = 4;
 
-const LINE_HEAD: usize = 2;
+const LINE_HEAD: usize = 3;
 
 // The words of a record under a quota.
 pub fn record_size(quota: usize) -> usize
@@ -108,21 +108,23 @@ fn put_columns(work: &mut [i32], at: usize, v: usize, lc: u16, vars: &[i32; VARI
     }
 }
 
-// Row number, block, columns: into work from index at on.
+// Row number, block, rounds begun, columns: into work from index at on.
 pub fn put_line(
     work: &mut [i32],
     at: usize,
     row: usize,
     block: u8,
+    begun: usize,
     v: usize,
     lc: u16,
     vars: &[i32; VARIABLES],
 )
-    requires { ⌜ (row < mostRows) × ((v ≤ mostColumns) × (at + lineSize (countTo v (bitOf lc)) ≤ length (now work))) ⌝ }
-    ensures { λ _. ⌜ now (work .exit) ≡ over (now (work .entry)) at (pos row ∷ pos block ∷ wordsOf (columnsOf v (bitOf lc) (valuesIn (now (vars .entry))))) ⌝ }
+    requires { ⌜ (row < mostRows) × ((begun ≤ mostBudget) × ((v ≤ mostColumns) × (at + lineSize (countTo v (bitOf lc)) ≤ length (now work)))) ⌝ }
+    ensures { λ _. ⌜ now (work .exit) ≡ over (now (work .entry)) at (lineWords row block begun (columnsOf v (bitOf lc) (valuesIn (now (vars .entry))))) ⌝ }
 {
     work[at] = row as i32;
     work[at + 1] = block as i32;
+    work[at + 2] = begun as i32;
     put_columns(work, at + LINE_HEAD, v, lc, vars);
 }
 

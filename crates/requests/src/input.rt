@@ -25,6 +25,20 @@ pub fn next_number() -> usize {
     values::joined(b[0], b[1], b[2], b[3]) as usize
 }
 
+// Fills buf with numbers, and answers whether the input went so far.
+pub fn fill_numbers(buf: &mut [u32]) -> bool {
+    let mut i = 0;
+    while i < buf.len() {
+        let n = next_number();
+        if END <= n {
+            return false;
+        }
+        buf[i] = n as u32;
+        i += 1;
+    }
+    true
+}
+
 // Fills buf, and answers whether the input went so far.
 pub fn fill(buf: &mut [u8]) -> bool {
     let n = buf.len();

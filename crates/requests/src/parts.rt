@@ -1,4 +1,4 @@
-// The first n bytes, or words, of a buffer.
+// The first n bytes, words or numbers of a buffer.
 ghost use mathlib.Core.Path.{_≡_};
 ghost use Prim.Native.Nat.{_≤_};
 ghost use lib.ListN.{length};
@@ -11,6 +11,13 @@ pub fn bytes(buf: &mut [u8], n: usize) -> &mut [u8]
 }
 
 pub fn words(buf: &mut [i32], n: usize) -> &mut [i32]
+    requires { ⌜ n ≤ length (now buf) ⌝ }
+    ensures { λ r. ⌜ length (now r) ≡ n ⌝ }
+{
+    &mut buf[..n]
+}
+
+pub fn numbers(buf: &mut [u32], n: usize) -> &mut [u32]
     requires { ⌜ n ≤ length (now buf) ⌝ }
     ensures { λ r. ⌜ length (now r) ≡ n ⌝ }
 {

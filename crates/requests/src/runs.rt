@@ -3,16 +3,23 @@ use crate::input;
 use crate::input::MOST;
 use crate::output;
 use crate::parts;
+use definitions::Reply;
 ghost use Prim.Native.Nat.{_≤_};
 ghost use lib.ListN.{length};
 
 // What a buffer's words hold before the call.
 const BEFORE: i32 = -1431655766;
 
+// What a request says of its budgets: one for all rows, or as many as are listed beside this.
+enum Brought {
+    Common(usize),
+    Each,
+}
+
 // The numbers of a request.
 struct Run {
     rows: usize,
-    budget: usize,
+    brought: Brought,
     quota: usize,
     out_room: usize,
     work_room: usize,
@@ -20,29 +27,62 @@ struct Run {
 
 pub fn answered() -> bool {
     let rows = input::next_number();
+    let common = input::next_number();
+    match common {
+        0 => with_list(rows),
+        1 => with_common(rows),
+        _ => false,
+    }
+}
+
+fn with_common(rows: usize) -> bool {
     let budget = input::next_number();
+    let none = [0u32; 1];
+    with_budgets(rows, Brought::Common(budget), &none)
+}
+
+fn with_list(rows: usize) -> bool {
+    let count = input::next_number();
+    if MOST < count {
+        return false;
+    }
+    let mut budgets = [0u32; 8192];
+    with_listed(rows, parts::numbers(&mut budgets, count))
+}
+
+fn with_listed(rows: usize, budgets: &mut [u32]) -> bool {
+    if !input::fill_numbers(budgets) {
+        return false;
+    }
+    with_budgets(rows, Brought::Each, budgets)
+}
+
+fn with_budgets(rows: usize, brought: Brought, budgets: &[u32]) -> bool {
     let quota = input::next_number();
     let out_room = input::next_number();
     let work_room = input::next_number();
-    with_numbers(Run {
-        rows: rows,
-        budget: budget,
-        quota: quota,
-        out_room: out_room,
-        work_room: work_room,
-    })
+    with_numbers(
+        Run {
+            rows: rows,
+            brought: brought,
+            quota: quota,
+            out_room: out_room,
+            work_room: work_room,
+        },
+        budgets,
+    )
 }
 
-fn with_numbers(run: Run) -> bool {
+fn with_numbers(run: Run, budgets: &[u32]) -> bool {
     let length = input::next_number();
     if MOST < length {
         return false;
     }
     let mut plan = [0u8; 8192];
-    with_plan(run, parts::bytes(&mut plan, length))
+    with_plan(run, budgets, parts::bytes(&mut plan, length))
 }
 
-fn with_plan(run: Run, plan: &mut [u8]) -> bool {
+fn with_plan(run: Run, budgets: &[u32], plan: &mut [u8]) -> bool {
     if !input::fill(plan) {
         return false;
     }
@@ -51,10 +91,10 @@ fn with_plan(run: Run, plan: &mut [u8]) -> bool {
         return false;
     }
     let mut values = [0i32; 8192];
-    with_values(run, plan, parts::words(&mut values, count))
+    with_values(run, budgets, plan, parts::words(&mut values, count))
 }
 
-fn with_values(run: Run, plan: &[u8], values: &mut [i32]) -> bool
+fn with_values(run: Run, budgets: &[u32], plan: &[u8], values: &mut [i32]) -> bool
     requires { ⌜ length (now values) ≤ 8192 ⌝ }
 {
     if !input::fill_words(values) {
@@ -72,6 +112,7 @@ fn with_values(run: Run, plan: &[u8], values: &mut [i32]) -> bool
     let mut work = [BEFORE; 8192];
     print(
         run,
+        budgets,
         plan,
         values,
         parts::words(&mut out, out_room),
@@ -80,9 +121,33 @@ fn with_values(run: Run, plan: &[u8], values: &mut [i32]) -> bool
     true
 }
 
-fn print(run: Run, plan: &[u8], values: &[i32], out: &mut [i32], work: &mut [i32]) {
-    output::reply(batches::run(plan, run.rows, values, run.budget, run.quota, out, work));
+fn print(
+    run: Run,
+    budgets: &[u32],
+    plan: &[u8],
+    values: &[i32],
+    out: &mut [i32],
+    work: &mut [i32],
+) {
+    output::reply(reply(run, budgets, plan, values, out, work));
     buffers(out, work);
+}
+
+fn reply(
+    run: Run,
+    budgets: &[u32],
+    plan: &[u8],
+    values: &[i32],
+    out: &mut [i32],
+    work: &mut [i32],
+) -> Reply {
+    let rows = run.rows;
+    let quota = run.quota;
+    let brought = run.brought;
+    match brought {
+        Brought::Common(budget) => batches::run(plan, rows, values, budget, quota, out, work),
+        Brought::Each => batches::run_each(plan, rows, values, budgets, quota, out, work),
+    }
 }
 
 fn buffers(out: &[i32], work: &[i32]) {

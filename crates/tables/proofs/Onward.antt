@@ -7,13 +7,13 @@ use mathlib.Core.List.{List, [], _∷_, _++_}
 use Rattle.definitions.specs.Values.{Word}
 use Rattle.definitions.specs.Rule.{Rule}
 use Rattle.definitions.specs.Direct.{State, after}
-use Rattle.definitions.specs.Batch.{recordsOf, liveOf, mostOf}
+use Rattle.definitions.specs.Batch.{mapFrom, recordsOf, liveOf, mostOf}
 use Rattle.columns.specs.Proper.{Proper}
 use Rattle.columns.specs.Row.{SoundNow}
 use Rattle.columns.proofs.Rows.{after-add}
 use Rattle.layouts.specs.Layout.{width, linesIn}
 use Rattle.layouts.proofs.Buffers.{drop-later}
-use Rattle.tables.specs.Table.{mapFrom, Table, AfterPass}
+use Rattle.tables.specs.Table.{Table, AfterPass}
 use Rattle.tables.specs.declared.Standing.{Standing}
 use Rattle.tables.proofs.Rows.{each-map, map-length, live-less}
 use Rattle.tables.proofs.Turns.{step}

@@ -12,14 +12,14 @@ use Rattle.buffers.proofs.Laws.{drop-over}
 use Rattle.definitions.specs.Values.{Word}
 use Rattle.definitions.specs.Rule.{Rule}
 use Rattle.definitions.specs.Direct.{State, goesOn}
-use Rattle.definitions.specs.Batch.{recordSize, recordOf, recordsOf, linesFrom, liveOf, mostOf}
+use Rattle.definitions.specs.Batch.{mapFrom, recordSize, recordOf, recordsOf, linesFrom, liveOf, mostOf}
 use Rattle.definitions.specs.Finder.{mostRows}
 use Rattle.columns.specs.Row.{SoundNow}
 use Rattle.layouts.specs.Layout.{width, lineIn, linesIn}
 use Rattle.layouts.specs.Rows.{RowAt}
 use Rattle.layouts.proofs.Buffers.{over-mid, part-mid, part-fits, take-over-all}
 use Rattle.layouts.proofs.Looks.{record-length, line-length}
-use Rattle.tables.specs.Table.{EachRow, mapFrom, Turned, Table, AfterPass}
+use Rattle.tables.specs.Table.{EachRow, Turned, Table, AfterPass}
 use Rattle.tables.specs.declared.Stage.{Stage}
 use Rattle.tables.specs.declared.Standing.{Standing}
 use Rattle.tables.proofs.Rows.{Stepwise, each-left, each-at, each-map, map-append, map-snoc, map-length, records-append, lines-append, live-append, records-length, quiet-lines, quiet-map, live-length, live-less, Next, next, most-more}

@@ -3,16 +3,16 @@ use mathlib.Core.Path.{_≡_, refl, sym, ap, subst, _∙_}
 use mathlib.Core.Bool.{Bool, true, false, cond}
 use Prim.Native.Nat.{ℕ, _+_, _*_, _≤_, _<_, max}
 use native.Mathlib.Omega.{arith}
-use mathlib.Core.List.{List, [], _∷_, _++_, map, append-assoc}
+use mathlib.Core.List.{List, [], _∷_, _++_, append-assoc}
 use lib.ListN.{length, length-append}
 use Rattle.definitions.specs.Values.{Word}
 use Rattle.definitions.specs.Rule.{Rule}
 use Rattle.definitions.specs.Direct.{State, goesOn}
-use Rattle.definitions.specs.Batch.{recordSize, recordOf, recordsOf, linesFrom, liveOf, mostOf}
+use Rattle.definitions.specs.Batch.{mapFrom, recordSize, recordOf, recordsOf, linesFrom, liveOf, mostOf}
 use Rattle.columns.specs.Row.{SoundNow}
 use Rattle.layouts.specs.Layout.{width, lineIn, linesIn}
 use Rattle.layouts.proofs.Looks.{record-length, line-length}
-use Rattle.tables.specs.Table.{EachRow, mapFrom}
+use Rattle.tables.specs.Table.{EachRow}
 
 -- what the laws of a pass over all rows want of the step g of each row's number
 pub record Stepwise (r : Rule) (q : ℕ) (g : ℕ → State → State) : Type 0 where
@@ -73,11 +73,11 @@ module _ (g : ℕ → State → State) where
   map-length k [] = refl
   map-length k (s ∷ ss) = omega (arith, map-length (k + 1) ss)
 
--- a step that is the same for every number
-pub map-same : (f : State → State) (k : ℕ) (ss : List State) → mapFrom (λ _. f) k ss ≡ map f ss
+-- steps that agree on the rows' numbers
+pub map-alike : (g h : ℕ → State → State) (k : ℕ) (ss : List State) → ((i : ℕ) (s : State) → i < k + length ss → g i s ≡ h i s) → mapFrom g k ss ≡ mapFrom h k ss
 unfolding mapFrom
-map-same f k [] = refl
-map-same f k (s ∷ ss) = ap (λ (l : List State). f s ∷ l) (map-same f (k + 1) ss)
+map-alike g h k [] e = refl
+map-alike g h k (s ∷ ss) e = rw (e k s (omega arith)) (ap (λ (l : List State). h k s ∷ l) (map-alike g h (k + 1) ss (λ i s l. e i s (omega arith))))
 
 -- ---- the layouts, of two lists one after the other
 pub records-append : (q : ℕ) (a b : List State) → recordsOf q (a ++ b) ≡ recordsOf q a ++ recordsOf q b

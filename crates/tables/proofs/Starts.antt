@@ -14,7 +14,7 @@ use Rattle.definitions.specs.Rule.{Rule}
 use Rattle.definitions.specs.Columns.{flowOf, LC}
 use Rattle.definitions.specs.Plan.{bitOf}
 use Rattle.definitions.specs.Direct.{State, start}
-use Rattle.definitions.specs.Batch.{recordSize, recordOf, recordsOf, linesFrom, liveOf, mostOf, startAt, startsOf, columnsOf}
+use Rattle.definitions.specs.Batch.{recordSize, recordOf, recordsOf, linesFrom, liveOf, mostOf, startAt, startsOf, columnsOf, lineWords}
 use Rattle.definitions.proofs.Values.{values-length, values-append, value-at}
 use Rattle.definitions.specs.Grammar.{mostVariables}
 use Rattle.definitions.specs.Finder.{mostRows}
@@ -149,13 +149,13 @@ module _ {l : Layout} {rows : ℕ} {values : List Word} {work : List Word} (p : 
     line-fits = omega (arith, item-in n rows (l .size) h, p .table)
 
     -- a fresh line
-    fresh : (vars : List Word) → vars ≡ inArray (take (l .arguments) (drop (n * l .arguments) values)) → pos n ∷ pos 0 ∷ wordsOf (columnsOf (l .variables) (bitOf (l .lc)) (valuesIn vars)) ≡ lineIn r n (startAt r values n)
+    fresh : (vars : List Word) → vars ≡ inArray (take (l .arguments) (drop (n * l .arguments) values)) → lineWords n 0 0 (columnsOf (l .variables) (bitOf (l .lc)) (valuesIn vars)) ≡ lineIn r n (startAt r values n)
     fresh vars e =
-        ap (λ (c : List Val). pos n ∷ pos 0 ∷ wordsOf c) (columns-mask (p .known) (startAt r values n .vars) (valuesIn vars) (fetched-start r (p .known .proper) values vars (l .arguments) n (p .known .arguments) e))
+        ap (lineWords n 0 0) (columns-mask (p .known) (startAt r values n .vars) (valuesIn vars) (fetched-start r (p .known .proper) values vars (l .arguments) n (p .known .arguments) e))
 
     -- one more line
     pub starts-line : (now now' vars : List Word) → Started r values n work now
-        → vars ≡ inArray (take (l .arguments) (drop (n * l .arguments) values)) → now' ≡ over now (n * l .size) (pos n ∷ pos 0 ∷ wordsOf (columnsOf (l .variables) (bitOf (l .lc)) (valuesIn vars)))
+        → vars ≡ inArray (take (l .arguments) (drop (n * l .arguments) values)) → now' ≡ over now (n * l .size) (lineWords n 0 0 (columnsOf (l .variables) (bitOf (l .lc)) (valuesIn vars)))
         → Started r values (n + 1) work now'
     starts-line now now' vars e ev ew =
         let x : List Word = lineIn r n (startAt r values n) in

@@ -1,18 +1,17 @@
 -- One row's turn: read, carried on, written. Assumes nothing.
 use mathlib.Core.Path.{_≡_, refl, sym, ap, _∙_}
 use mathlib.Core.Bool.{Bool, true, false}
-use Prim.Native.Nat.{ℕ, zero, suc, _+_, _-_, _*_, _≤_, _<_}
+use Prim.Native.Nat.{ℕ, zero, suc, _+_, _*_, _≤_, _<_}
 use native.Mathlib.Omega.{arith}
-use mathlib.Core.List.{List, _∷_, _++_}
-use lib.IntN.{pos}
-use lib.ListN.{length, take, replicate}
+use mathlib.Core.List.{List}
+use lib.ListN.{length, take}
 use Rattle.buffers.specs.Words.{over}
 use Rattle.definitions.specs.Values.{Word, valuesIn, wordsOf}
 use Rattle.definitions.specs.Rule.{Rule}
 use Rattle.definitions.specs.Columns.{flowOf, LC}
 use Rattle.definitions.specs.Plan.{bitOf}
 use Rattle.definitions.specs.Direct.{State, Round, jumped, finished, joined, advance, afterFrom, after, goesOn}
-use Rattle.definitions.specs.Batch.{recordSize, recordOf, countTo, lineSize, columnsOf}
+use Rattle.definitions.specs.Batch.{Budgets, budgetOf, recordSize, recordWords, recordOf, countTo, lineSize, lineWords, columnsOf}
 use Rattle.definitions.specs.Finder.{mostRows, mostColumns}
 use Rattle.definitions.specs.Calls.{mostBudget}
 use Rattle.definitions.proofs.Values.{words-again}
@@ -61,6 +60,10 @@ line-low {r} {l} kn i h = lines-low i (l .size) h (omega (arith, kn .size', kn .
 abbrev pub some-row : {r : Rule} {l : Layout} {from : ℕ} {out work : List Word} → Known r l → RowAt r (l .quota) from out work → SomeRowAt l from out work
 some-row {r} kn k = record { rule = r; known = kn; at = k }
 
+-- the budget of the row that was read is its own
+pub own-budget : {l : Layout} {from : ℕ} {out work : List Word} {p : SomeRowAt l from out work} {row : Row} → RowRead l from out work p row → {N : ℕ} (bs : Budgets) → N ≡ budgetOf bs (row .row) → N ≡ budgetOf bs (p .at .row)
+own-budget lk {N} bs e = e ∙ ap (budgetOf bs) (lk .row)
+
 module _ {r : Rule} {l : Layout} {from : ℕ} {out work : List Word} (kn : Known r l) (k : RowAt r (l .quota) from out work) {row : Row} (lk : RowRead l from out work (some-row kn k) row) where
   abbrev q : ℕ
   q = l .quota
@@ -98,7 +101,7 @@ module _ {r : Rule} {l : Layout} {from : ℕ} {out work : List Word} (kn : Known
 
     -- the record
     module _ (at : ℕ) (ea : at ≡ row .row * recordSize q) (out' : List Word)
-        (eo : out' ≡ over out at (pos (c .finish .status) ∷ pos (row .begun + c .rounds) ∷ pos (c .count) ∷ pos (c .finish .place) ∷ (take (c .count) labels ++ replicate (q - c .count) (pos 0)))) where
+        (eo : out' ≡ over out at (recordWords q (c .finish) (row .begun + c .rounds) (c .count) (take (c .count) labels))) where
       its-record : out' ≡ over out (k .row * recordSize q) (recordOf q s')
       its-record =
           let ls : take (c .count) labels ≡ wordsOf (s' .labels) = sym (words-again (take (c .count) labels)) ∙ ap wordsOf (w .labels') in
@@ -114,7 +117,7 @@ module _ {r : Rule} {l : Layout} {from : ℕ} {out work : List Word} (kn : Known
       }
 
       -- it goes on
-      pub turned-on : (to : ℕ) (work' : List Word) → goesOn (c .finish) ≡ true → work' ≡ over work to (pos (row .row) ∷ pos (c .block) ∷ wordsOf (columnsOf (l .variables) (bitOf (l .lc)) (valuesIn vars)))
+      pub turned-on : (to : ℕ) (work' : List Word) → goesOn (c .finish) ≡ true → work' ≡ over work to (lineWords (row .row) (c .block) (row .begun + c .rounds) (columnsOf (l .variables) (bitOf (l .lc)) (valuesIn vars)))
           → Turned r q (k .row) to s' out work (record { finish = c .finish; begun = row .begun + c .rounds }) out' work'
       turned-on to work' z ew =
           let on : goesOn (s' .finish) ≡ true = ap goesOn (sym (w .finish)) ∙ z in
@@ -122,5 +125,5 @@ module _ {r : Rule} {l : Layout} {from : ℕ} {out work : List Word} (kn : Known
             finish' = w .finish;
             begun' = begun-is;
             record' = its-record;
-            line = rw on (ew ∙ rw (lk .row, w .block on, columns-mask kn (s' .vars) (valuesIn vars) (w .vars' on)));
+            line = rw on (ew ∙ rw (lk .row, w .block on, begun-is, columns-mask kn (s' .vars) (valuesIn vars) (w .vars' on)));
           }

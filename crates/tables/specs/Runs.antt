@@ -6,22 +6,21 @@ use lib.ListN.{length, drop}
 use Rattle.definitions.specs.Values.{Word}
 use Rattle.definitions.specs.Rule.{Rule}
 use Rattle.definitions.specs.Columns.{flowOf, LC}
-use Rattle.definitions.specs.Batch.{recordSize, startsOf, statesOf, recordsOf, tableOf, mostOf}
+use Rattle.definitions.specs.Batch.{Budgets, budgetOf, recordSize, startsOf, statesOf, recordsOf, tableOf, mostOf}
 use Rattle.definitions.specs.Finder.{mostRows, mostQuota}
 use Rattle.definitions.specs.Calls.{mostBudget, left}
 use Rattle.definitions.specs.declared.Reply.the-variants.{Done}
 use Rattle.layouts.specs.Layout.{width, linesIn, Known}
 use Rattle.layouts.specs.declared.Layout.{Layout}
-use Rattle.tables.specs.declared.Extent.{Extent}
 
 -- numbers that keep to their limits: so many values, and so many words of the two buffers
-pub record Allowed (l : Layout) (e : Extent) (values out work : ℕ) : Type 0 where
-  pub rows-few : e .rows ≤ mostRows
-  pub given : values ≡ e .rows * l .arguments
-  pub budget-low : e .budget ≤ mostBudget
+pub record Allowed (l : Layout) (rows : ℕ) (bs : Budgets) (values out work : ℕ) : Type 0 where
+  pub rows-few : rows ≤ mostRows
+  pub given : values ≡ rows * l .arguments
+  pub budgets-low : (n : ℕ) → budgetOf bs n ≤ mostBudget
   pub quota-low : l .quota ≤ mostQuota
-  pub records : e .rows * recordSize (l .quota) ≤ out
-  pub table : e .rows * l .size ≤ work
+  pub records : rows * recordSize (l .quota) ≤ out
+  pub table : rows * l .size ≤ work
 
 -- a rule's rows that are to be put into the working buffer
 pub record ToStart (l : Layout) (rows : ℕ) (values : List Word) (work : List Word) : Type 0 where
@@ -36,7 +35,7 @@ abbrev pub Started : Rule → List Word → ℕ → List Word → List Word → 
 Started r values n work work' = work' ≡ linesIn r 0 (startsOf r values n) ++ drop (n * width r) work
 
 -- what a run leaves: the direct run's rows
-pub record RowsRun (r : Rule) (values : List Word) (e : Extent) (q : ℕ) (out work : List Word) (most : ℕ) (out' work' : List Word) : Type 0 where
-  pub most' : most ≡ mostOf (statesOf r values (e .rows) (e .budget) q)
-  pub records : out' ≡ left (Done most) (recordsOf q (statesOf r values (e .rows) (e .budget) q)) out
-  pub table : work' ≡ left (Done most) (tableOf (r .variables) (LC (flowOf r)) (statesOf r values (e .rows) (e .budget) q)) work
+pub record RowsRun (r : Rule) (values : List Word) (rows : ℕ) (bs : Budgets) (q : ℕ) (out work : List Word) (most : ℕ) (out' work' : List Word) : Type 0 where
+  pub most' : most ≡ mostOf (statesOf r values rows bs q)
+  pub records : out' ≡ left (Done most) (recordsOf q (statesOf r values rows bs q)) out
+  pub table : work' ≡ left (Done most) (tableOf (r .variables) (LC (flowOf r)) (statesOf r values rows bs q)) work

@@ -9,21 +9,28 @@ use Rattle.buffers.specs.Words.{over}
 use Rattle.definitions.specs.Values.{Word}
 use Rattle.definitions.specs.Rule.{Rule}
 use Rattle.definitions.specs.Direct.{State, goesOn}
-use Rattle.definitions.specs.Batch.{recordSize, recordOf, recordsOf, liveOf, mostOf}
+use Rattle.definitions.specs.Batch.{Budgets, common, each, mapFrom, recordSize, recordOf, recordsOf, liveOf, mostOf}
 use Rattle.definitions.specs.Finder.{mostRows}
 use Rattle.definitions.specs.Calls.{mostBudget}
 use Rattle.columns.specs.Row.{SoundNow}
 use Rattle.layouts.specs.Layout.{width, lineIn, linesIn}
 use Rattle.layouts.specs.Rows.{RowAt}
+use Rattle.tables.specs.declared.Allowance.{Allowance}
+use Rattle.tables.specs.declared.Allowance.the-variants.{Common, Each}
 use Rattle.tables.specs.declared.Stage.{Stage}
 use Rattle.tables.specs.declared.Standing.{Standing}
 
+-- ---- the budgets of a call, as the code has them: one number for all, or a list beside it
+abbrev pub budgetsIn : Allowance → List ℕ → Budgets
+budgetsIn (Common N) Ns = common N
+budgetsIn Each Ns = each Ns
+
 -- ---- one row
 
--- a row that stands in the two buffers, and may begin N rounds more
-pub record RowMayBegin (N : ℕ) (r : Rule) (q from : ℕ) (out work : List Word) : Type 0 where
+-- a row that stands in the two buffers, and may begin as many rounds more as N says of its number
+pub record RowMayBegin (N : ℕ → ℕ) (r : Rule) (q from : ℕ) (out work : List Word) : Type 0 where
   pub at : RowAt r q from out work
-  pub room : at .state .begun + N ≤ mostBudget
+  pub room : at .state .begun + N (at .row) ≤ mostBudget
 
 -- what is left when row `row` has gone on to s: its record, and its line at `to` if it still goes on
 pub record Turned (r : Rule) (q row to : ℕ) (s : State) (out work : List Word) (g : Stage) (out' work' : List Word) : Type 0 where
@@ -38,11 +45,6 @@ pub record Turned (r : Rule) (q row to : ℕ) (s : State) (out work : List Word)
 unfoldable pub EachRow : (ℕ → State → Type 0) → ℕ → List State → Type 0
 EachRow P k [] = Unit {0}
 EachRow P k (s ∷ ss) = P k s × EachRow P (k + 1) ss
-
--- the rows, each gone on by the step of its number
-unfoldable pub mapFrom : (ℕ → State → State) → ℕ → List State → List State
-mapFrom g k [] = []
-mapFrom g k (s ∷ ss) = g k s ∷ mapFrom g (k + 1) ss
 
 -- rows that stand in the two buffers: all records, and the table of the unfinished rows
 pub record Table (r : Rule) (q live : ℕ) (out work : List Word) : Type 0 where

@@ -1,12 +1,14 @@
 // The LOOP table: every unfinished row carried on by rounds, its line moved up in place.
 ghost use Prim.Native.Nat.{_≤_};
 ghost use lib.ListN.{length};
+ghost use mathlib.Core.Path.{_≡_};
 ghost use Rattle.definitions.specs.Direct.{after};
+ghost use Rattle.definitions.specs.Batch.{budgetOf};
 ghost use Rattle.plans.specs.Accepted.{ruleIn};
 ghost use Rattle.carries.specs.Carry.{Running};
 ghost use Rattle.layouts.specs.Layout.{Known};
 ghost use Rattle.layouts.specs.Rows.{RowAt};
-ghost use Rattle.tables.specs.Table.{RowMayBegin, Turned, Table, RowsMayBegin, AfterPass};
+ghost use Rattle.tables.specs.Table.{budgetsIn, RowMayBegin, Turned, Table, RowsMayBegin, AfterPass};
 ghost use Rattle.tables.specs.Runs.{Allowed, ToStart, Started, RowsRun};
 use carries::Spot;
 use carries::carry;
@@ -19,6 +21,37 @@ use layouts::put_record;
 use layouts::read_row;
 use layouts::record_at;
 use rounds::Rule;
+
+// ---- budgets
+
+// How many rounds the rows may begin: one number for all, or one for each, in a list beside it.
+pub enum Allowance {
+    Common(usize),
+    Each,
+}
+
+// A budget as a size.
+pub fn widened(n: u32) -> usize
+    ensures { λ r. ⌜ r ≡ n ⌝ }
+{
+    n as usize
+}
+
+// How many a row may begin.
+fn budget_of(a: Allowance, budgets: &[u32], row: usize) -> usize
+    ensures { λ r. ⌜ r ≡ budgetOf (budgetsIn a (now (budgets .entry))) row ⌝ }
+{
+    match a {
+        Allowance::Common(n) => n,
+        Allowance::Each => {
+            if row < budgets.len() {
+                widened(budgets[row])
+            } else {
+                0
+            }
+        }
+    }
+}
 
 // ---- one row
 
@@ -34,20 +67,21 @@ pub struct Stage {
     pub begun: usize,
 }
 
-// Up to `budget` rounds of the row whose line is moved: its record is written anew, and its line if it goes on.
+// As many rounds as its budget says of the row whose line is moved: its record is written anew, and its line if it goes on.
 fn turn(
     plan: &[u8],
     rule: &Rule,
     l: Layout,
-    budget: usize,
+    a: Allowance,
+    budgets: &[u32],
     m: Move,
     out: &mut [i32],
     work: &mut [i32],
 ) -> Stage
     requires { ⌜ Running (now plan) (now rule) × (Known (ruleIn (now plan)) l × (m .to ≤ m .from)) ⌝ }
-    requires { ⌜ RowMayBegin budget (ruleIn (now plan)) (l .quota) (m .from) (now out) (now work) ⌝ }
+    requires { ⌜ RowMayBegin (budgetOf (budgetsIn a (now budgets))) (ruleIn (now plan)) (l .quota) (m .from) (now out) (now work) ⌝ }
     ensures { λ r. ⌜ ((k : RowAt (ruleIn (now (plan .entry))) (l .quota) (m .from) (now (out .entry)) (now (work .entry)))
-        → Turned (ruleIn (now (plan .entry))) (l .quota) (k .row) (m .to) (after (ruleIn (now (plan .entry))) (l .quota) budget (k .state))
+        → Turned (ruleIn (now (plan .entry))) (l .quota) (k .row) (m .to) (after (ruleIn (now (plan .entry))) (l .quota) (budgetOf (budgetsIn a (now (budgets .entry))) (k .row)) (k .state))
         (now (out .entry)) (now (work .entry)) r (now (out .exit)) (now (work .exit))) ⌝ }
 {
     let row = read_row(out, work, m.from, l);
@@ -57,13 +91,23 @@ fn turn(
         block: row.block,
         count: row.count,
     };
+    let budget = budget_of(a, budgets, row.row);
     let c = carry(plan, rule, l.quota, budget, spot, &mut labels, &mut vars);
     let begun = row.begun + c.rounds;
     let at = record_at(row.row, l.quota);
     let finish = c.finish;
     put_record(out, at, l.quota, finish, begun, c.count, &labels);
     if goes_on(finish) {
-        put_line(work, m.to, row.row, c.block, l.variables, l.lc, &vars);
+        put_line(
+            work,
+            m.to,
+            row.row,
+            c.block,
+            begun,
+            l.variables,
+            l.lc,
+            &vars,
+        );
     }
     Stage { finish, begun }
 }
@@ -76,20 +120,21 @@ pub struct Standing {
     pub most: usize,
 }
 
-// Up to `budget` rounds of every unfinished row, from wherever the rows stand. The lines of those that go on move up.
+// As many rounds of every unfinished row as its budget says, from wherever the rows stand. The lines of those that go on move up.
 fn pass(
     plan: &[u8],
     rule: &Rule,
     l: Layout,
-    budget: usize,
+    a: Allowance,
+    budgets: &[u32],
     before: Standing,
     out: &mut [i32],
     work: &mut [i32],
 ) -> Standing
     requires { ⌜ Running (now plan) (now rule) × Known (ruleIn (now plan)) l ⌝ }
-    requires { ⌜ RowsMayBegin (λ _. budget) (ruleIn (now plan)) (l .quota) (before .live) (now out) (now work) ⌝ }
+    requires { ⌜ RowsMayBegin (budgetOf (budgetsIn a (now budgets))) (ruleIn (now plan)) (l .quota) (before .live) (now out) (now work) ⌝ }
     ensures { λ r. ⌜ ((t : Table (ruleIn (now (plan .entry))) (l .quota) (before .live) (now (out .entry)) (now (work .entry)))
-        → AfterPass (ruleIn (now (plan .entry))) (l .quota) before (now (out .entry)) (now (work .entry)) t (λ _. after (ruleIn (now (plan .entry))) (l .quota) budget)
+        → AfterPass (ruleIn (now (plan .entry))) (l .quota) before (now (out .entry)) (now (work .entry)) t (λ i. after (ruleIn (now (plan .entry))) (l .quota) (budgetOf (budgetsIn a (now (budgets .entry))) i))
         r (now (out .exit)) (now (work .exit))) ⌝ }
 {
     let live = before.live;
@@ -101,7 +146,7 @@ fn pass(
             from: i * l.size,
             to: kept * l.size,
         };
-        let s = turn(plan, rule, l, budget, m, out, work);
+        let s = turn(plan, rule, l, a, budgets, m, out, work);
         if top < s.begun {
             top = s.begun;
         }
@@ -124,15 +169,15 @@ fn put_starts(l: Layout, values: &[i32], rows: usize, work: &mut [i32])
     let mut row: usize = 0;
     while row < rows {
         let vars = fetch(values, row * l.arguments, l.arguments);
-        put_line(work, row * l.size, row, 0, l.variables, l.lc, &vars);
+        put_line(work, row * l.size, row, 0, 0, l.variables, l.lc, &vars);
         row += 1;
     }
 }
 
-// How many rows a call has, and how many rounds each may begin.
+// How many rows a call has, and whether they have one budget for all.
 pub struct Extent {
     pub rows: usize,
-    pub budget: usize,
+    pub allowance: Allowance,
 }
 
 // All rows from their start on; the rest of the table is cleared. The most rounds that any row began.
@@ -141,13 +186,14 @@ pub fn run_rows(
     rule: &Rule,
     l: Layout,
     e: Extent,
+    budgets: &[u32],
     values: &[i32],
     out: &mut [i32],
     work: &mut [i32],
 ) -> usize
     requires { ⌜ Running (now plan) (now rule) × Known (ruleIn (now plan)) l ⌝ }
-    requires { ⌜ Allowed l e (length (now values)) (length (now out)) (length (now work)) ⌝ }
-    ensures { λ r. ⌜ RowsRun (ruleIn (now (plan .entry))) (now (values .entry)) e (l .quota) (now (out .entry)) (now (work .entry)) r (now (out .exit)) (now (work .exit)) ⌝ }
+    requires { ⌜ Allowed l (e .rows) (budgetsIn (e .allowance) (now budgets)) (length (now values)) (length (now out)) (length (now work)) ⌝ }
+    ensures { λ r. ⌜ RowsRun (ruleIn (now (plan .entry))) (now (values .entry)) (e .rows) (budgetsIn (e .allowance) (now (budgets .entry))) (l .quota) (now (out .entry)) (now (work .entry)) r (now (out .exit)) (now (work .exit)) ⌝ }
 {
     let rows = e.rows;
     buffers::clear_at(out, 0, record_at(rows, l.quota));
@@ -156,7 +202,8 @@ pub fn run_rows(
         live: rows,
         most: 0,
     };
-    let s = pass(plan, rule, l, e.budget, first, out, work);
+    let allowance = e.allowance;
+    let s = pass(plan, rule, l, allowance, budgets, first, out, work);
     let live = s.live;
     buffers::clear_at(work, live * l.size, (rows - live) * l.size);
     s.most

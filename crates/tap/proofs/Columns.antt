@@ -18,7 +18,7 @@ use Rattle.rules.proofs.Accepted.{rule-in}
 use Rattle.plans.specs.Accepted.{PlanOf}
 use Rattle.plans.proofs.Accepted.{is-plan}
 use Rattle.plans.proofs.Planned.{plan-exactly}
-use Rattle.batches.specs.Replies.{UnderRule, misfit, high, shortOut, shortWork, done, ToRun, noPlan, under}
+use Rattle.batches.specs.Replies.{UnderRule, misfit, high, highRow, shortOut, shortWork, done, ToRun, noPlan, under}
 use Rattle.batches.proofs.Exactly.{run-exactly}
 use Rattle.tap.specs.Packed.{half, packed, Clear}
 
@@ -57,6 +57,7 @@ module _ {b : Batch} {out work out′ work′ : List Word} {r : Reply} {n : ℕ}
       row : (s : Rule) (q : Reply) → q ≡ refusal 12 1 → columns s ≡ n → UnderRule b s (length out) (length work) q → ⊥
       row s _ d c (misfit h) = omega (arith, other 13 0 d)
       row s _ d c (high f h) = omega (arith, other 14 0 d)
+      row s _ d c (highRow {n = m} f l h) = omega (arith, other 14 m d)
       row s _ d c (shortOut f l h) = omega (arith, other 12 0 d)
       row s _ d c (shortWork f l o h) = let z : length work < b .rows * lineSize n = rw (← c) h in omega arith
       row s _ d c (done f l o w) = let z : _≡_ {A = ℕ} 0 1 = cc in omega arith

@@ -3,21 +3,21 @@ use Prim.Native.Nat.{ℕ, zero, suc, _+_, _*_, _/_, _≤_}
 use native.Mathlib.Omega.{arith}
 use native.Mathlib.Nat.{max-le}
 use mathlib.Core.Path.{_≡_, refl}
-use mathlib.Core.Bool.{Bool, true, false, cond, not, _||_, _&&_}
-use mathlib.Core.List.{List, [], _∷_, _++_, map, append-assoc, append-nil}
+use mathlib.Core.Bool.{Bool, true, false, cond, not, _&&_}
+use mathlib.Core.List.{List, [], _∷_, _++_, append-assoc, append-nil}
 use lib.Dec.{ltb, eqb}
 use lib.ListN.{length, length-append, length-take, length-drop}
 use borrow.Author.Tests.{ltb-false}
 use Rattle.definitions.specs.Rule.{Rule, size}
 use Rattle.definitions.specs.Values.{Word}
 use Rattle.definitions.specs.Direct.{State, goesOn, Round, jumped, finished, origin, walk, joined, advanceFrom, advance, afterFrom, after}
-use Rattle.definitions.specs.Batch.{recordSize, lineSize, startAt, startsOf, statesOf, mostOf}
+use Rattle.definitions.specs.Batch.{Budgets, budgetOf, mapFrom, startAt, startsOf, statesOf, mostOf}
 use Rattle.definitions.specs.Grammar.{Got, got, refused, then, ruleOf, longest}
 use Rattle.definitions.specs.Pages.{mostPages, pageSize, lengthIn, checkIn, checkOf, pageIn, payloadOf, lengthOk, fillerOk, sizeOk, pageAt, payloadTo, unpacked, fileOf}
-use Rattle.definitions.specs.Calls.{refusal, toRead, toWrite, toCompile, replyIn, Wrote, Batch, Ran, ranReply, runReply, rowsOf, columns, mostBudget}
-use Rattle.definitions.specs.Finder.{mostRows, mostQuota}
+use Rattle.definitions.specs.Calls.{refusal, toRead, toWrite, toCompile, replyIn, Wrote, Batch, Ran, brought, mostBudget}
+use Rattle.definitions.specs.Finder.{mostRows}
 use Rattle.definitions.specs.Columns.{flowOf}
-use Rattle.definitions.specs.Plan.{planOf, planned}
+use Rattle.definitions.specs.Plan.{planOf}
 use Rattle.definitions.specs.declared.Reply.{Reply}
 use Rattle.definitions.specs.declared.Reply.the-variants.{Done}
 use Rattle.pages.proofs.Reading.{size-is}
@@ -27,6 +27,9 @@ use Rattle.rules.proofs.Sound.{Sound}
 use Rattle.rules.proofs.Accepted.{rule-sound, rule-in}
 use Rattle.rules.proofs.Places.{rule-header}
 use Rattle.plans.proofs.Fields.{plan-length}
+use Rattle.batches.specs.Replies.{Counted, forAll, forEach, UnderRule, misfit, high, highRow, shortOut, shortWork, done, ToRun, noPlan, under}
+use Rattle.batches.proofs.Budgets.{is-none, all-low}
+use Rattle.batches.proofs.Exactly.{run-exactly}
 use Rattle.tap.specs.Packed.{packed, mostNumber, Clear, Stands}
 
 -- what is to be written, or the place of what is refused, is at most m
@@ -142,47 +145,46 @@ module _ (r : Rule) (q : ℕ) where
   began zero s = omega arith
   began (suc n) s = omega (arith, one-more (after r q n s), began n s)
 
-  -- no row begins more rounds than the budget, whatever the order in which rows are added
-  most-began : (values : List Word) (N rows : ℕ) (more : List State) → mostOf (map (after r q N) more) ≤ N → mostOf (map (after r q N) (startsOf r values rows ++ more)) ≤ N
-  unfolding startsOf mostOf
-  most-began values N zero more h = h
-  most-began values N (suc n) more h =
-      let b : after r q N (startAt r values n) .begun ≤ N = omega (arith, began N (startAt r values n)) in
-      rw append-assoc (most-began values N n (startAt r values n ∷ more) (max-le b h))
+  -- where no row's budget is over M, no row begins more rounds, whatever the order in which rows are added
+  module _ (bs : Budgets) (M : ℕ) (low : (n : ℕ) → budgetOf bs n ≤ M) where
+    abbrev go-on : ℕ → State → State
+    go-on n = after r q (budgetOf bs n)
 
-  pub most-few : (values : List Word) (N rows : ℕ) → mostOf (statesOf r values rows N q) ≤ N
-  unfolding mostOf
-  most-few values N rows = rw (append-nil (startsOf r values rows)) at (most-began values N rows [] (omega arith))
+    most-began : (values : List Word) (rows : ℕ) (more : List State) → ((k : ℕ) → mostOf (mapFrom go-on k more) ≤ M) → (k : ℕ) → mostOf (mapFrom go-on k (startsOf r values rows ++ more)) ≤ M
+    unfolding startsOf mapFrom mostOf
+    most-began values zero more h k = h k
+    most-began values (suc n) more h k =
+        let b : (j : ℕ) → go-on j (startAt r values n) .begun ≤ M = λ j. omega (arith, began (budgetOf bs j) (startAt r values n), low j) in
+        rw append-assoc (most-began values n (startAt r values n ∷ more) (λ j. max-le (b j) (h (j + 1))) k)
+
+    pub most-few : (values : List Word) (rows : ℕ) → mostOf (statesOf r values rows bs q) ≤ M
+    unfolding mapFrom mostOf
+    most-few values rows = rw (append-nil (startsOf r values rows)) at (most-began values rows [] (λ k. omega arith) 0)
 
 -- ---- the run
 
--- a refusal of the calls, whose place is 0 or 1
-clear-refused : (k p : ℕ) → 1 ≤ k → k ≤ mostNumber → p ≤ 1 → Clear (refusal k p)
+-- a refusal of the calls, whose place is a buffer's or a row's
+clear-refused : (k p : ℕ) → 1 ≤ k → k ≤ mostNumber → p ≤ mostRows → Clear (refusal k p)
 unfolding Clear
 clear-refused k p l u h = (l, (u, omega arith))
 
+-- no more budgets are brought than there may be rows
+few-brought : {rows : ℕ} {bs : Budgets} → Counted rows bs → rows ≤ mostRows → length (brought bs) ≤ mostRows
+few-brought (forAll N) h = omega arith
+few-brought (forEach Ns e) h = omega arith
+
 pub clear-run : {b : Batch} {out work : List Word} {x : Reply} {out′ work′ : List Word} → Ran b out work x out′ work′ → Clear x
-unfolding runReply ranReply Clear
-clear-run {b = b} {out = out} {work = work} w = rw (w .reply) (go (planned (b .plan)))
+unfolding Clear
+clear-run {b = b} {out = out} {work = work} {x = x} {out′ = out′} {work′ = work′} w = go x (run-exactly b out work x out′ work′ w x .0 refl)
   where
-    ran :
-        (r : Rule) (rows limits first second : Bool) → (limits ≡ false → b .budget ≤ mostBudget)
-        → Clear (cond rows (refusal 13 0) (cond limits (refusal 14 0) (cond first (refusal 12 0) (cond second (refusal 12 1) (Done (mostOf (rowsOf b r)))))))
-    ran r true limits first second h = clear-refused 13 0 (omega arith) (omega arith) (omega arith)
-    ran r false true first second h = clear-refused 14 0 (omega arith) (omega arith) (omega arith)
-    ran r false false true second h = clear-refused 12 0 (omega arith) (omega arith) (omega arith)
-    ran r false false false true h = clear-refused 12 1 (omega arith) (omega arith) (omega arith)
-    ran r false false false false h = omega (arith, h refl, most-few r (b .quota) (b .values) (b .budget) (b .rows))
+    ran : (r : Rule) (q : Reply) → UnderRule b r (length out) (length work) q → Clear q
+    ran r _ (misfit h) = clear-refused 13 0 (omega arith) (omega arith) (omega arith)
+    ran r _ (high f h) = clear-refused 14 0 (omega arith) (omega arith) (omega arith)
+    ran r _ (highRow {n = n} f l o) = clear-refused 14 n (omega arith) (omega arith) (omega (arith, o .there, few-brought (f .counted) (f .few)))
+    ran r _ (shortOut f l h) = clear-refused 12 0 (omega arith) (omega arith) (omega arith)
+    ran r _ (shortWork f l o h) = clear-refused 12 1 (omega arith) (omega arith) (omega arith)
+    ran r _ (done f l o h) = omega (arith, most-few r (b .quota) (b .budgets) mostBudget (all-low (b .budgets) (is-none (brought (b .budgets)) (l .budgets-low))) (b .values) (b .rows))
 
-    few : (t : Bool) → ltb mostBudget (b .budget) || t ≡ false → b .budget ≤ mostBudget
-    few t e = go′ (ltb mostBudget (b .budget)) refl e
-      where
-        go′ : (a : Bool) → ltb mostBudget (b .budget) ≡ a → a || t ≡ false → b .budget ≤ mostBudget
-        go′ true p q = let z : _≡_ {A = ℕ} 0 1 = cc in absurd (omega arith)
-        go′ false p q = ltb-false mostBudget (b .budget) p
-
-    go : (p : Got Rule) → Clear (runReply b p (length out) (length work))
-    go (got r n) =
-        ran r (ltb mostRows (b .rows) || not (eqb (length (b .values)) (b .rows * r .arguments))) (ltb mostBudget (b .budget) || ltb mostQuota (b .quota))
-        (ltb (length out) (b .rows * recordSize (b .quota))) (ltb (length work) (b .rows * lineSize (columns r))) (few (ltb mostQuota (b .quota)))
-    go (refused k p) = clear-refused 15 0 (omega arith) (omega arith) (omega arith)
+    go : (q : Reply) → ToRun b (length out) (length work) q → Clear q
+    go _ (noPlan h) = clear-refused 15 0 (omega arith) (omega arith) (omega arith)
+    go q (under {r = r} p h) = ran r q h

@@ -1,6 +1,7 @@
 // The calls, exported for C and Rust. A slice passes as a pointer and a length; what an answer's 64 bits hold is said in specs/.
 ghost use mathlib.Core.Path.{_≡_};
 ghost use Rattle.definitions.specs.Plan.{planned};
+ghost use Rattle.definitions.specs.Batch.{common, each};
 ghost use Rattle.definitions.specs.Calls.{Wrote, Ran, toRead, toWrite, toCompile, columnsReply};
 ghost use Prim.Native.Nat.{_<_};
 ghost use Rattle.finder.specs.Place.{placeIn};
@@ -72,7 +73,7 @@ pub extern "C" fn tap_run(
     ensures { λ x.
         ⌜ Stands
         (λ r. Ran
-        (record { plan = now (plan .entry); rows = rows; values = now (values .entry); budget = budget; quota = quota })
+        (record { plan = now (plan .entry); rows = rows; values = now (values .entry); budgets = common budget; quota = quota })
         (now (out .entry))
         (now (work .entry))
         r
@@ -85,6 +86,39 @@ pub extern "C" fn tap_run(
         rows as usize,
         values,
         budget as usize,
+        quota as usize,
+        out,
+        work,
+    );
+    pack(r)
+}
+
+#[no_mangle]
+pub extern "C" fn tap_run_each(
+    plan: &[u8],
+    rows: u32,
+    values: &[i32],
+    budgets: &[u32],
+    quota: u32,
+    out: &mut [i32],
+    work: &mut [i32],
+) -> u64
+    ensures { λ x.
+        ⌜ Stands
+        (λ r. Ran
+        (record { plan = now (plan .entry); rows = rows; values = now (values .entry); budgets = each (now (budgets .entry)); quota = quota })
+        (now (out .entry))
+        (now (work .entry))
+        r
+        (now (out .exit))
+        (now (work .exit)))
+        x ⌝ }
+{
+    let r = batches::run_each(
+        plan,
+        rows as usize,
+        values,
+        budgets,
         quota as usize,
         out,
         work,

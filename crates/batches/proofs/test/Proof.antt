@@ -1,75 +1,57 @@
--- Each test of the code is one of the definition's, in its order. Assumes nothing.
-use Prim.Native.Nat.{_*_}
-use mathlib.Core.Path.{_∙_}
-use native.Mathlib.Omega.{arith}
-use borrow.Author.Tests.{lt-ltb, le-ltb, eq-eqb, ne-eqb}
-use Rattle.definitions.specs.Batch.{recordSize}
-use Rattle.layouts.proofs.Sizes.{values-low, lines-low}
-use Rattle.batches.specs.Tests.{tested}
+-- The tests in their order, each where none before it refuses. Assumes nothing.
+use mathlib.Core.Path.{sym, _∙_}
+use Rattle.batches.proofs.Replies.{tested-misfit, tested-high, tested-over, tested-short, few-rows}
 use borrow.Author.Needs.{needs}
 use Rattle.batches.proofs.test.Statement.{statement}
 use Rattle.batches.proofs.test.Tie as tie
 
 returns : tie.Need-returns
-unfolding tested
-returns c = c .refuse .ensures ∙ simp (lt-ltb _ _ (c .before .if1 .taken))
-
-mul-if2 : tie.Need-mul-if2
-mul-if2 c = let s = c .before .before .before .before in omega (arith, values-low (s .args .e .rows) (s .args .l .arguments) (c .before .before .if1 .left) (s .pre .0))
+returns c =
+    let a = c .before .before .before .before .args in
+    c .refuse .ensures ∙ tested-misfit (a .l) (a .e) (a .budgets .now) (a .values) (a .out) (a .work) (sym (c .before .before .misfitting .ensures) ∙ c .before .if1 .taken)
 
 returns-2 : tie.Need-returns-2
-unfolding tested
-returns-2 c = c .refuse2 .ensures ∙ simp (le-ltb _ _ (c .before .before .before .before .if1 .left), ne-eqb _ _ (c .before .if2 .taken))
+returns-2 c =
+    let at-else = c .before .before .before in
+    let a = at-else .before .before .before .args in
+    c .refuse2 .ensures ∙ tested-high (a .l) (a .e) (a .budgets .now) (a .values) (a .out) (a .work) (sym (at-else .before .misfitting .ensures) ∙ at-else .if1 .left) (c .before .if2 .taken)
+
+short-requires : tie.Need-short-requires
+short-requires c κs =
+    let at-quota = c .before .before .before in
+    let at-else = at-quota .before .before in
+    let s = at-else .before .before .before in
+    let a = s .args in
+    (few-rows (a .l) (a .e) (a .budgets .now) (a .values) (a .out) (a .work) (sym (at-else .before .misfitting .ensures) ∙ at-else .if1 .left), (at-quota .if2 .left, s .pre .1))
 
 returns-3 : tie.Need-returns-3
-unfolding tested
-returns-3 c = c .refuse3 .ensures ∙ simp (le-ltb _ _ (c .before .before .before .before .before .before .if1 .left), eq-eqb _ _ (c .before .before .before .if2 .left), lt-ltb _ _ (c .before .if3 .taken))
+returns-3 c =
+    let at-over = c .before .before .before in
+    let at-quota = at-over .before in
+    let at-else = at-quota .before .before in
+    let a = at-else .before .before .before .args in
+    tested-over (a .l) (a .e) (a .budgets .now) (a .values) (a .out) (a .work) (sym (at-else .before .misfitting .ensures) ∙ at-else .if1 .left) (at-quota .if2 .left) _ (sym (at-over .over-budget .ensures) ∙ c .before .f .given .1)
 
 returns-4 : tie.Need-returns-4
-unfolding tested
-returns-4 c = c .refuse4 .ensures ∙ simp (le-ltb _ _ (c .before .before .before .before .before .before .before .before .if1 .left), eq-eqb _ _ (c .before .before .before .before .before .if2 .left), le-ltb _ _ (c .before .before .before .if3 .left), lt-ltb _ _ (c .before .if4 .taken))
-
-record-at-requires : tie.Need-record-at-requires
-record-at-requires c κs = (c .before .before .before .before .before .before .before .if1 .left, c .if4 .left)
-
-returns-5 : tie.Need-returns-5
-unfolding tested
-returns-5 c =
-    let a = c .before .before .before .before .before .before .before .before .before .before .before .before .args in
-    c .refuse5 .ensures ∙ simp (le-ltb _ _ (c .before .before .before .before .before .before .before .before .before .before .if1 .left), eq-eqb _ _ (c .before .before .before .before .before .before .before .if2 .left), le-ltb _ _ (c .before .before .before .before .before .if3 .left), le-ltb _ _ (c .before .before .before .if4 .left), lt-ltb (a .out) (a .e .rows * recordSize (a .l .quota)) (omega (arith, c .before .if5 .taken, c .before .before .record-at .ensures)))
-
-mul-if6 : tie.Need-mul-if6
-mul-if6 c = let s = c .before .before .before .before .before .before .before .before .before .before .before .before .before in omega (arith, lines-low (s .args .e .rows) (s .args .l .size) (c .before .before .before .before .before .before .before .before .before .before .before .if1 .left) (s .pre .1))
-
-returns-6 : tie.Need-returns-6
-unfolding tested
-returns-6 c =
-    let a = c .before .before .before .before .before .before .before .before .before .before .before .before .before .before .before .args in
-    c .refuse6 .ensures ∙ simp (le-ltb _ _ (c .before .before .before .before .before .before .before .before .before .before .before .before .before .if1 .left), eq-eqb _ _ (c .before .before .before .before .before .before .before .before .before .before .if2 .left), le-ltb _ _ (c .before .before .before .before .before .before .before .before .if3 .left), le-ltb _ _ (c .before .before .before .before .before .before .if4 .left), le-ltb (a .out) (a .e .rows * recordSize (a .l .quota)) (omega (arith, c .before .before .before .before .if5 .left, c .before .before .before .before .before .record-at .ensures)), lt-ltb _ _ (c .before .if6 .taken))
-
-returns-7 : tie.Need-returns-7
-unfolding tested
-returns-7 c =
-    let a = c .before .before .before .before .before .before .before .before .before .before .before .before .before .before .args in
-    simp (le-ltb _ _ (c .before .before .before .before .before .before .before .before .before .before .before .before .if1 .left), eq-eqb _ _ (c .before .before .before .before .before .before .before .before .before .if2 .left), le-ltb _ _ (c .before .before .before .before .before .before .before .if3 .left), le-ltb _ _ (c .before .before .before .before .before .if4 .left), le-ltb (a .out) (a .e .rows * recordSize (a .l .quota)) (omega (arith, c .before .before .before .if5 .left, c .before .before .before .before .record-at .ensures)), le-ltb _ _ (c .if6 .left))
+returns-4 c =
+    let at-over = c .before .before .before in
+    let at-quota = at-over .before in
+    let at-else = at-quota .before .before in
+    let a = at-else .before .before .before .args in
+    c .short .ensures ∙ tested-short (a .l) (a .e) (a .budgets .now) (a .values) (a .out) (a .work) (sym (at-else .before .misfitting .ensures) ∙ at-else .if1 .left) (at-quota .if2 .left) _ (sym (at-over .over-budget .ensures) ∙ c .before .enum-told .given .1)
 
 pub test-spec : {M : Type 1} → statement M
 test-spec =
     tie.close
     (tie.spec
     (λ c κs. search needs)
+    (λ c κs. search needs)
     returns
-    mul-if2
     (λ c κs. search needs)
     returns-2
     (λ c κs. search needs)
+    (λ c. search needs)
+    (λ c. search needs)
+    short-requires
     returns-3
-    (λ c κs. search needs)
-    returns-4
-    record-at-requires
-    (λ c κs. search needs)
-    returns-5
-    mul-if6
-    (λ c κs. search needs)
-    returns-6
-    returns-7)
+    returns-4)

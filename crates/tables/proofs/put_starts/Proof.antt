@@ -41,7 +41,7 @@ put-line-requires c κs =
     let l = c .before .before .before .before .before .before in
     let p = l .before .pre in
     let h = c .before .before .before .before .before .loop-test .taken in
-    (omega (arith, p .few, h), (omega (arith, p .known .variables, p .known .proper .few), omega (arith, line-fits p (l .loop .row) h, p .known .size', mask-all (p .known), l .loop .inv .1 .0)))
+    (omega (arith, p .few, h), (omega arith, (omega (arith, p .known .variables, p .known .proper .few), omega (arith, line-fits p (l .loop .row) h, p .known .size', mask-all (p .known), l .loop .inv .1 .0))))
 
 loop-again : tie.Need-loop-again Inv-loop μ-loop
 loop-again c =
