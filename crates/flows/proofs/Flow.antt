@@ -15,8 +15,8 @@ use Rattle.definitions.specs.Smallest.{Smallest}
 use Rattle.definitions.specs.Plan.{placeOf, endOf}
 use Rattle.definitions.proofs.Smallest.{smallest-only, alike}
 use Rattle.definitions.proofs.Reached.{closure-smallest}
-use Rattle.rules.proofs.Accepted.{rule-in}
-use Rattle.rules.proofs.Places.{rule-header, rule-blocks, block-stands}
+use Rattle.readers.proofs.Accepted.{rule-in}
+use Rattle.readers.proofs.Places.{rule-header, rule-blocks, block-stands}
 use Rattle.closure.specs.Tables.{edgeIn, variableIn}
 use Rattle.flows.specs.Marks.{partIn, has, readsFirst}
 use Rattle.flows.specs.Flow.{Ruled, Told}

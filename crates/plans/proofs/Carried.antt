@@ -13,9 +13,9 @@ use Rattle.definitions.specs.Batch.{countTo}
 use Rattle.definitions.specs.Calls.{columns}
 use Rattle.definitions.proofs.Masks.{mask-count}
 use Rattle.columns.specs.Proper.{Proper}
-use Rattle.rules.specs.Accepted.{RuleIn}
-use Rattle.rules.proofs.Accepted.{rule-in}
-use Rattle.rules.proofs.Places.{rule-header, block-stands}
+use Rattle.readers.specs.Accepted.{RuleIn}
+use Rattle.readers.proofs.Accepted.{rule-in}
+use Rattle.readers.proofs.Places.{rule-header, block-stands}
 use Rattle.flows.proofs.Flow.{place-past}
 use Rattle.plans.specs.declared.Taken.{Taken}
 use Rattle.plans.specs.declared.Taken.the-variants as taken

@@ -18,9 +18,9 @@ use Rattle.definitions.specs.declared.Reply.the-variants.{Done, Refused}
 use Rattle.pages.specs.Answers.{scanOf}
 use Rattle.pages.proofs.Reading.{scan-got, scan-refused, absurd-got}
 use Rattle.rules.specs.Opened.{Opened}
-use Rattle.rules.proofs.Accepted.{rule-in}
+use Rattle.readers.proofs.Accepted.{rule-in}
 use Rattle.rules.proofs.FileLaws.{wrote-all}
-use Rattle.rules.proofs.Places.{rule-header}
+use Rattle.readers.proofs.Places.{rule-header}
 use Rattle.flows.specs.Flow.{Ruled}
 use Rattle.plans.proofs.Fields.{plan-length}
 

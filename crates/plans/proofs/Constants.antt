@@ -13,7 +13,7 @@ use Rattle.definitions.specs.Direct.{start, after}
 use Rattle.definitions.proofs.Tests.{less-or}
 use Rattle.pages.proofs.Trip.{Bytes, bytes-append, bytes-take, bytes-drop}
 use Rattle.rules.proofs.Spelling.{rule-exactly}
-use Rattle.rules.proofs.Spelt.{every-at}
+use Rattle.readers.proofs.Spelt.{every-at}
 use Rattle.columns.specs.Range.{AllInRange, Bounded, worked, Constants, Ranged}
 use Rattle.columns.proofs.Ranges.{start-ranged, after-ranged}
 use Rattle.plans.proofs.Accepted.{is-plan}

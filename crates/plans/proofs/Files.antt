@@ -9,7 +9,7 @@ use Rattle.definitions.specs.Grammar.{got, ruleOf, longest}
 use Rattle.definitions.specs.Pages.{pageSize, payloadRoom, pageIn, pageAt, payloadTo, unpacked}
 use Rattle.pages.specs.Answers.{scanOf}
 use Rattle.pages.proofs.Reading.{page-room, whole, size-is, got-size}
-use Rattle.rules.proofs.Places.{through}
+use Rattle.readers.proofs.Places.{through}
 use Rattle.plans.specs.Promised.{ruleInFile}
 
 -- the rule in what it holds

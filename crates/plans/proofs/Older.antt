@@ -17,8 +17,8 @@ use Rattle.definitions.specs.declared.Reply.the-variants.{Done}
 use Rattle.definitions.proofs.Tests.{and-parts, not-so, some-same}
 use Rattle.definitions.proofs.Agreeing.{Agree, same-inputs, same-outputs, mask-same}
 use Rattle.definitions.proofs.Led.{led-exactly, dead-inputs, dead-outputs, dead-joins}
-use Rattle.rules.proofs.Accepted.{rule-in}
-use Rattle.rules.proofs.Places.{rule-header}
+use Rattle.readers.proofs.Accepted.{rule-in}
+use Rattle.readers.proofs.Places.{rule-header}
 use Rattle.rules.proofs.Promises.{done-bytes}
 use Rattle.plans.specs.Promised.{ruleInFile}
 use Rattle.plans.specs.Older.{olderPlan, NoneDead, NoColumns}

@@ -7,7 +7,7 @@ use mathlib.Core.List.{List}
 use Rattle.definitions.specs.Rule.{Rule}
 use Rattle.definitions.specs.Grammar.{got}
 use Rattle.definitions.specs.Plan.{carried, planned}
-use Rattle.rules.proofs.Places.{rule-end}
+use Rattle.readers.proofs.Places.{rule-end}
 use Rattle.plans.specs.Accepted.{PlanOf}
 use Rattle.plans.proofs.Accepted.{is-plan}
 use Rattle.plans.proofs.Promises.{compiled-accepted}

@@ -19,8 +19,8 @@ use Rattle.pages.proofs.Trip.{Bytes}
 use Rattle.rules.specs.Replies.{OfFile}
 use Rattle.rules.specs.Spelling.{Accepts}
 use Rattle.rules.proofs.Spelling.{file-accepts}
-use Rattle.rules.proofs.Accepted.{rule-in}
-use Rattle.rules.proofs.Places.{through, rule-end, rule-header}
+use Rattle.readers.proofs.Accepted.{rule-in}
+use Rattle.readers.proofs.Places.{through, rule-end, rule-header}
 use Rattle.rules.proofs.Promises.{file-exactly, done-what, done-bytes, written-holds}
 use Rattle.plans.specs.Accepted.{treeOf, ruleIn, Accepted}
 use Rattle.plans.specs.Promised.{ruleInFile, Carries, PlanFor}

@@ -7,7 +7,7 @@ use mathlib.Core.List.{List}
 use Rattle.definitions.specs.Rule.{Rule, size, blockOf}
 use Rattle.definitions.specs.Grammar.{got, ruleOf}
 use Rattle.definitions.specs.Columns.{goesTo}
-use Rattle.rules.proofs.Accepted.{rule-in, gotos-exist, jumps-exist, gotos-rise, reads-exist, sets-exist}
+use Rattle.readers.proofs.Accepted.{rule-in, gotos-exist, jumps-exist, gotos-rise, reads-exist, sets-exist}
 use Rattle.columns.specs.Proper.{Ranked, Proper}
 
 -- a number for each block that rises along gotos, counted down from the last, is a rank

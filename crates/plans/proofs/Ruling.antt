@@ -9,9 +9,9 @@ use Rattle.definitions.specs.Rule.{Rule, size}
 use Rattle.definitions.specs.Grammar.{got, targetsOf, ruleOf, variablesIn, blocksIn}
 use Rattle.definitions.specs.Columns.{Flow, flowOf}
 use Rattle.definitions.specs.Plan.{placeOf, planSize, longestPlan}
-use Rattle.rules.proofs.Sound.{sound-got}
-use Rattle.rules.proofs.Accepted.{block-sound, rule-in}
-use Rattle.rules.proofs.Places.{rule-header, block-stands}
+use Rattle.readers.proofs.Sound.{sound-got}
+use Rattle.readers.proofs.Accepted.{block-sound, rule-in}
+use Rattle.readers.proofs.Places.{rule-header, block-stands}
 use Rattle.closure.specs.Tables.{Tables, Columned}
 use Rattle.flows.specs.Flow.{Ruled, Told}
 use Rattle.flows.proofs.Flow.{place-past, place-within}

@@ -16,7 +16,7 @@ use Rattle.definitions.specs.declared.Refusal.{Refusal}
 use Rattle.definitions.specs.declared.Read.the-variants as read
 use Rattle.definitions.proofs.Tests.{clash}
 use Rattle.pages.proofs.Reading.{absurd-got}
-use Rattle.rules.proofs.Accepted.{rule-in}
+use Rattle.readers.proofs.Accepted.{rule-in}
 use Rattle.rules.proofs.FileLaws.{read-got, read-refused}
 use Rattle.flows.specs.Flow.{Ruled}
 use Rattle.plans.specs.declared.Taken.{Taken}
@@ -24,7 +24,7 @@ use Rattle.plans.specs.declared.Taken.the-variants as taken
 use Rattle.plans.specs.Taken.{takenOf, Extracted, Taking}
 use Rattle.plans.proofs.Fields.{plan-length}
 use Rattle.plans.proofs.Accepted.{Plan, is-plan, same-refl, same-is}
-use Rattle.rules.proofs.Places.{rule-end, rule-header}
+use Rattle.readers.proofs.Places.{rule-end, rule-header}
 use Rattle.plans.proofs.Ruling.{rule-has-block}
 
 -- a plan that was compiled into a longer buffer, compared at its own size

@@ -101,7 +101,7 @@ pub fn take(plan: &[u8], rule: &mut [u8]) -> Taken
 {
     match extract(plan, rule) {
         Taken::NotPlan => Taken::NotPlan,
-        Taken::Rule(n) => match rules::read_rule(&rule[..n]) {
+        Taken::Rule(n) => match readers::read_rule(&rule[..n]) {
             Read::Refused(_) => Taken::NotPlan,
             Read::Next(_) => {
                 if compiles_to(&rule[..n], plan) {

@@ -8,8 +8,8 @@ use Rattle.definitions.specs.Rule.{Block, Rule, size, blockOf}
 use Rattle.definitions.specs.Grammar.{got, targetsOf, blocksTo, ruleOf}
 use Rattle.definitions.specs.Plan.{placeOf}
 use Rattle.definitions.specs.Spelling.{stmtBytes, endBytes, inTurn, blockBytes, blockPlace}
-use Rattle.rules.specs.Accepted.{noBlock}
-use Rattle.rules.proofs.Places.{block-stands}
+use Rattle.readers.specs.Accepted.{noBlock}
+use Rattle.readers.proofs.Places.{block-stands}
 use Rattle.evaluators.proofs.Sizes.{blockSize, block-size}
 
 -- the bytes of one block

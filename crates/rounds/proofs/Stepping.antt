@@ -21,7 +21,7 @@ use Rattle.definitions.specs.Direct.{on, ended, onward, faulted, quotaFull, ste
 use Rattle.definitions.specs.declared.Flaw.{Flaw}
 use Rattle.definitions.specs.declared.Finish.{Finish}
 use Rattle.definitions.proofs.Values.{values-length, values-set, values-append}
-use Rattle.rules.specs.Readings.{stmtBody, stmtAt}
+use Rattle.readers.specs.Readings.{stmtBody, stmtAt}
 use Rattle.evaluators.specs.Skip.{past}
 use Rattle.evaluators.specs.Answer.{Readable, answer}
 use Rattle.rounds.specs.Run.{StmtHere, labelsIn, StmtRun, BlockHere, BodyRun}

@@ -13,7 +13,7 @@ use Rattle.definitions.specs.Plan.{bitOf}
 use Rattle.definitions.specs.Spelling.{bodySize}
 use Rattle.definitions.specs.Meaning.{Where, atByte}
 use Rattle.definitions.specs.Direct.{stopped, faulted, Way, on, ended, step, steps, Exit, toBlock, toRound, toStop, exit, Round, jumped, finished, leave}
-use Rattle.rules.specs.Readings.{stmtAt}
+use Rattle.readers.specs.Readings.{stmtAt}
 use Rattle.columns.specs.OnPlan.{kept}
 use Rattle.rounds.specs.declared.blocks.Entry.{Entry}
 use Rattle.rounds.specs.declared.blocks.Leading.{Leading}

@@ -21,9 +21,9 @@ use Rattle.definitions.specs.declared.Reply.the-variants.{Done, Refused}
 use Rattle.pages.proofs.Refusals.{refuses, refused-only}
 use Rattle.pages.proofs.Trip.{Bytes, write-read, read-write}
 use Rattle.rules.specs.Replies.{Make, OfRule, bad, short, done, OfFile, page, holds, ToRead, ToWrite, long, may}
-use Rattle.rules.proofs.Sound.{sound-refused}
-use Rattle.rules.proofs.Accepted.{rule-sound}
-use Rattle.rules.proofs.Places.{through, rule-header}
+use Rattle.readers.proofs.Sound.{sound-refused}
+use Rattle.readers.proofs.Accepted.{rule-sound}
+use Rattle.readers.proofs.Places.{through, rule-header}
 use Rattle.rules.proofs.FileLaws.{write-good}
 
 -- ---- reading, writing and compiling: each has one outcome

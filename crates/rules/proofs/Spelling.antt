@@ -21,12 +21,12 @@ use Rattle.definitions.proofs.Faults.{run-tells}
 use Rattle.pages.proofs.Trip.{Bytes, read-write}
 use Rattle.rules.specs.Replies.{Make, OfRule, bad, short, done, OfFile, page, holds, ToWrite, long, may}
 use Rattle.rules.specs.Spelling.{Accepts}
-use Rattle.rules.proofs.Accepted.{rule-in, gotos-rise}
-use Rattle.rules.proofs.Places.{rule-blocks, rule-end, rule-header}
-use Rattle.rules.proofs.Spelt.{Spelt, spelt-whole}
-use Rattle.rules.proofs.SpeltRead.{rule-gives}
-use Rattle.rules.proofs.SpeltSmall.{rule-small}
-use Rattle.rules.proofs.ReadSpelt.{blocks-spelt}
+use Rattle.readers.proofs.Accepted.{rule-in, gotos-rise}
+use Rattle.readers.proofs.Places.{rule-blocks, rule-end, rule-header}
+use Rattle.readers.proofs.Spelt.{Spelt, spelt-whole}
+use Rattle.readers.proofs.SpeltRead.{rule-gives}
+use Rattle.readers.proofs.SpeltSmall.{rule-small}
+use Rattle.readers.proofs.ReadSpelt.{blocks-spelt}
 use Rattle.rules.proofs.Promises.{file-exactly, write-exactly}
 
 -- ---- what is read

@@ -1,80 +1,65 @@
-// The readers of a rule's bytes: whether a rule stands there, or what is wrong with it first.
-pub mod blocks;
-pub mod exprs;
-mod files;
-
-use definitions::BLOCKS;
+// Rule files: a file's rule into the caller's buffer, and a rule's file.
+use definitions::LONGEST;
 use definitions::Read;
-use definitions::VARIABLES;
-use definitions::misread;
-pub use files::open;
-pub use files::read;
-pub use files::write;
-ghost use mathlib.Core.Path.{_≡_};
-ghost use Rattle.definitions.specs.Grammar.{readOf, between, blocksTo, ruleOf};
-ghost use Rattle.rules.specs.Readings.{headerAt};
+use definitions::Reply;
+use definitions::refuse;
+ghost use Prim.Native.Nat.{_≤_};
+ghost use lib.ListN.{length};
+ghost use Rattle.definitions.specs.Grammar.{longest};
+ghost use Rattle.definitions.specs.Calls.{Wrote, toRead, toWrite};
+ghost use Rattle.rules.specs.Opened.{Opened};
 
-// Whether a number lies between two, both included.
-fn within(x: u8, low: u8, high: u8) -> bool
-    ensures { λ r. ⌜ r ≡ between low high x ⌝ }
+// The rule in a file, at the start of a buffer that any rule fits in: its length, or why there is none.
+pub fn open(file: &[u8], rule: &mut [u8]) -> Reply
+    requires { ⌜ longest ≤ length (now rule) ⌝ }
+    ensures { λ r. ⌜ Opened (toRead (now (file .entry))) r (now (rule .exit)) ⌝ }
 {
-    low <= x && x <= high
-}
-
-// The header: its four bytes are there, and the first bad one is told.
-fn read_header(s: &[u8]) -> Read
-    ensures { λ r. ⌜ r ≡ readOf (headerAt (now (s .entry))) ⌝ }
-{
-    if s.len() < 4 {
-        return misread(9, s.len());
-    }
-    if s[0] != 1 {
-        return misread(4, 0);
-    }
-    if !within(s[1], 1, VARIABLES as u8) {
-        return misread(4, 1);
-    }
-    if s[1] < s[2] {
-        return misread(4, 2);
-    }
-    if !within(s[3], 1, BLOCKS as u8) {
-        return misread(4, 3);
-    }
-    Read::Next(4)
-}
-
-// These many blocks, right after the header.
-fn read_blocks(s: &[u8], v: u8, blocks: u8) -> Read
-    ensures { λ r. ⌜ r ≡ readOf (blocksTo blocks v (now (s .entry)) blocks) ⌝ }
-{
-    let mut at = 4;
-    let mut block = 0;
-    while block < blocks {
-        let targets = blocks::targets_of(blocks, block);
-        match blocks::read_block(s, at, v, targets) {
-            Read::Next(n) => at = n,
-            Read::Refused(e) => return Read::Refused(e),
-        }
-        block += 1;
-    }
-    Read::Next(at)
-}
-
-// The whole of the bytes as a rule: nothing may follow its last block.
-pub fn read_rule(s: &[u8]) -> Read
-    ensures { λ r. ⌜ r ≡ readOf (ruleOf (now (s .entry))) ⌝ }
-{
-    match read_header(s) {
-        Read::Refused(e) => Read::Refused(e),
-        Read::Next(_) => match read_blocks(s, s[1], s[3]) {
-            Read::Refused(e) => Read::Refused(e),
-            Read::Next(n) => {
-                if n < s.len() {
-                    misread(10, n)
-                } else {
-                    Read::Next(n)
-                }
+    match pages::scan(file) {
+        Reply::Refused(f) => Reply::Refused(f),
+        Reply::Done(n) => {
+            pages::unpack(file, rule);
+            match readers::read_rule(&rule[..n]) {
+                Read::Refused(f) => Reply::Refused(f),
+                Read::Next(_) => Reply::Done(n),
             }
-        },
+        }
+    }
+}
+
+// A file's rule into out from its start.
+pub fn read(file: &[u8], out: &mut [u8]) -> Reply
+    ensures { λ r. ⌜ Wrote (toRead (now (file .entry))) (now (out .entry)) r (now (out .exit)) ⌝ }
+{
+    let mut rule = [0u8; LONGEST];
+    match open(file, &mut rule) {
+        Reply::Refused(f) => Reply::Refused(f),
+        Reply::Done(n) => {
+            if out.len() < n {
+                return refuse(12, 0);
+            }
+            buffers::copy_bytes_at(out, 0, &rule[..n]);
+            Reply::Done(n)
+        }
+    }
+}
+
+// A rule's file into out from its start.
+pub fn write(rule: &[u8], out: &mut [u8]) -> Reply
+    ensures { λ r. ⌜ Wrote (toWrite (now (rule .entry))) (now (out .entry)) r (now (out .exit)) ⌝ }
+{
+    let n = rule.len();
+    if LONGEST < n {
+        return refuse(11, 0);
+    }
+    match readers::read_rule(rule) {
+        Read::Refused(f) => Reply::Refused(f),
+        Read::Next(_) => {
+            let size = pages::file_size(n);
+            if out.len() < size {
+                return refuse(12, 0);
+            }
+            pages::put_file(rule, out);
+            Reply::Done(size)
+        }
     }
 }

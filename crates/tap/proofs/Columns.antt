@@ -14,7 +14,7 @@ use Rattle.definitions.specs.Calls.{refusal, Batch, Ran, columns, columnsReply}
 use Rattle.definitions.specs.declared.Reply.{Reply}
 use Rattle.definitions.specs.declared.Reply.the-variants.{Done}
 use Rattle.definitions.proofs.Counts.{count-le}
-use Rattle.rules.proofs.Accepted.{rule-in}
+use Rattle.readers.proofs.Accepted.{rule-in}
 use Rattle.plans.specs.Accepted.{PlanOf}
 use Rattle.plans.proofs.Accepted.{is-plan}
 use Rattle.plans.proofs.Planned.{plan-exactly}

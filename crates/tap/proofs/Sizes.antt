@@ -22,10 +22,10 @@ use Rattle.definitions.specs.declared.Reply.{Reply}
 use Rattle.definitions.specs.declared.Reply.the-variants.{Done}
 use Rattle.pages.proofs.Reading.{size-is}
 use Rattle.pages.proofs.Writing.{length-file}
-use Rattle.rules.specs.Accepted.{RuleIn}
-use Rattle.rules.proofs.Sound.{Sound}
-use Rattle.rules.proofs.Accepted.{rule-sound, rule-in}
-use Rattle.rules.proofs.Places.{rule-header}
+use Rattle.readers.specs.Accepted.{RuleIn}
+use Rattle.readers.proofs.Sound.{Sound}
+use Rattle.readers.proofs.Accepted.{rule-sound, rule-in}
+use Rattle.readers.proofs.Places.{rule-header}
 use Rattle.plans.proofs.Fields.{plan-length}
 use Rattle.batches.specs.Replies.{Counted, forAll, forEach, UnderRule, misfit, high, highRow, shortOut, shortWork, done, ToRun, noPlan, under}
 use Rattle.batches.proofs.Budgets.{is-none, all-low}

@@ -2,7 +2,7 @@
 use mathlib.Core.Path.{_∙_}
 use native.Mathlib.Omega.{arith}
 use borrow.Author.Needs.{needs}
-use Rattle.rules.proofs.Laws.{told}
+use Rattle.readers.proofs.Laws.{told}
 use Rattle.answers.proofs.Laws.{batch-size, cut-text, whole-text}
 use Rattle.answers.proofs.put_input.Statement.{statement}
 use Rattle.answers.proofs.put_input.Tie as tie

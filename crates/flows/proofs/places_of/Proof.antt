@@ -6,9 +6,9 @@ use borrow.Author.Needs.{needs}
 use Rattle.definitions.specs.Grammar.{readOf, blocksTo}
 use Rattle.definitions.specs.Plan.{endOf}
 use Rattle.definitions.specs.declared.Read.the-variants.{Next}
-use Rattle.rules.proofs.Laws.{told}
-use Rattle.rules.proofs.RuleLaws.{blocks-next, blocks-refused}
-use Rattle.rules.proofs.Places.{next-place}
+use Rattle.readers.proofs.Laws.{told}
+use Rattle.readers.proofs.RuleLaws.{blocks-next, blocks-refused}
+use Rattle.readers.proofs.Places.{next-place}
 use Rattle.closure.proofs.Laws.{Written, written-none, written-set}
 use Rattle.flows.proofs.places_of.Statement.{statement}
 use Rattle.flows.proofs.places_of.Tie as tie

@@ -5,7 +5,7 @@ use borrow.Author.Needs.{needs}
 use native.Mathlib.Omega.{arith}
 use lib.ListN.{length-take}
 use Rattle.definitions.specs.Plan.{planSize}
-use Rattle.rules.proofs.Laws.{told}
+use Rattle.readers.proofs.Laws.{told}
 use Rattle.rules.proofs.FileLaws.{wrote-no, wrote-short}
 use Rattle.plans.proofs.Compiling.{compile-not, ready, compile-size, compile-room, compile-all}
 use Rattle.plans.proofs.compile.Statement.{statement}

@@ -2,7 +2,7 @@
 use borrow.Author.Needs.{needs}
 use native.Mathlib.Omega.{arith}
 use lib.ListN.{length-take}
-use Rattle.rules.proofs.Laws.{told}
+use Rattle.readers.proofs.Laws.{told}
 use Rattle.plans.proofs.Taking.{taking-none, taking-refused, taken-ruled, taking-all, taking-not}
 use Rattle.plans.proofs.take.Statement.{statement}
 use Rattle.plans.proofs.take.Tie as tie

@@ -1,0 +1,11 @@
+pub mod Laws
+pub mod Sound
+pub mod Accepted
+pub mod BlockLaws
+pub mod RuleLaws
+pub mod Places
+pub mod TagBytes
+pub mod Spelt
+pub mod SpeltRead
+pub mod SpeltSmall
+pub mod ReadSpelt
