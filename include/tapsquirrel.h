@@ -20,7 +20,7 @@ extern "C" {
 /* Buffers that are always long enough, in bytes. */
 #define TAP_RULE_BYTES 4064
 #define TAP_FILE_BYTES 4096
-#define TAP_PLAN_BYTES 4578
+#define TAP_PLAN_BYTES 4642
 
 /* A record's words before its labels, and how many they are. */
 enum { TAP_STATUS, TAP_ROUNDS, TAP_LABEL_COUNT, TAP_FAULT_PLACE, TAP_RECORD_HEAD };
@@ -45,6 +45,7 @@ enum { TAP_LINE_ROW, TAP_LINE_BLOCK, TAP_LINE_ROUNDS, TAP_LINE_HEAD };
  *  7 target not allowed     8 too deep               9 rule ends early
  * 10 bytes after the rule  11 rule too long         12 buffer too short (place 0 first, 1 working)
  * 13 rows, values, budgets 14 budget or quota       15 not a plan
+ * 16 gotos form a cycle
  * docs/USING.md says what to do about each.
  */
 static inline uint32_t tap_refusal(uint64_t answer) { return (uint32_t)(answer >> 32); }

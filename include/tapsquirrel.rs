@@ -30,7 +30,7 @@ mod c {
 /// Buffers that are always long enough, in bytes.
 pub const RULE_BYTES: usize = 4064;
 pub const FILE_BYTES: usize = 4096;
-pub const PLAN_BYTES: usize = 4578;
+pub const PLAN_BYTES: usize = 4642;
 
 /// Where a record has its status and, after rounds and number of labels, the fault's place.
 pub const STATUS: usize = 0;

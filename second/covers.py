@@ -2,7 +2,7 @@
 
 Fails, and says what is missing, unless every reply of every call, every status, every kind of found
 part, every kind of dead blocks in plans made, run and outdated, every kind of place of a fault by every
-operator, and every kind of budgets has come up.
+operator, every kind of budgets, and every kind of gotos back, cycles and wrong order bytes has come up.
 """
 
 import sys
@@ -15,16 +15,18 @@ from dead import KINDS, dead_kinds, old_plan
 from direct import OUT_OF_RANGE, UNFINISHED, ZERO_DIVISOR
 from faults import FAULTS, PLACES, fault_at
 from files import payload_of
+from orders import (BACK, BEHIND, CYCLES, GOOD, PLANS, RUNS, kinds_behind, kinds_of_cycle, kinds_of_good,
+                    kinds_of_plan, kinds_of_run)
 from plan import carried_rule, compile_rule, loop_width
 from refusal import Refusal
-from rule import OPERATORS, parse
+from rule import OPERATORS, parse, tree_of
 from stream import COMPILE, READ, WRITE, BadRequest, Bytes, Run, requests
 
 NAMES = {READ: "read", WRITE: "write", COMPILE: "compile"}
 REFUSALS = {
-    "read": (*range(1, 11), 12),
-    "write": range(4, 13),
-    "compile": (*range(1, 11), 12),
+    "read": (*range(1, 11), 12, 16),
+    "write": (*range(4, 13), 16),
+    "compile": (*range(1, 11), 12, 16),
     "run": range(12, 16),
 }
 STATUSES = range(5)
@@ -48,13 +50,16 @@ def wanted():
     names += [f"fault {status} at {tag:02x}" for status, tag in FAULTS]
     names += [f"fault at {tag:02x}, {place}" for place in PLACES for tag in OPERATORS]
     names += [f"{shown}, {kind}" for shown in ("compile ok", "run ok", OUTDATED) for kind in KINDS]
+    names += [f"{shown}, {kind}" for shown in ("compile ok", "run ok") for kind in GOOD]
+    names += [f"{call} refused 16, {kind}" for call in NAMES.values() for kind in CYCLES]
+    names += [*BEHIND, *RUNS, *[f"run refused 15, {kind}" for kind in PLANS]]
     return names + [STILL_GOOD]
 
 
 def seen_in(request, answer):
     """The names of what one answer shows."""
     if isinstance(request, Bytes):
-        return seen_in_bytes(request, reply_name(NAMES[request.kind], answer))
+        return seen_in_bytes(request, answer)
     if isinstance(request, Run):
         return seen_in_run(request, answer)
     return seen_in_find(request, answer)
@@ -91,14 +96,23 @@ def has_old_size(rows, size, room):
     return rows > 0 and room == rows * (size - 1)
 
 
-def seen_in_bytes(request, name):
-    if name != "compile ok":
-        return [name]
-    return [name, *with_kinds(name, payload_of(request.data))]
+def seen_in_bytes(request, answer):
+    name = reply_name(NAMES[request.kind], answer)
+    word, number, place, *_ = answer.split()
+    if word == "refused" and int(number) in (*range(4, 12), 16):
+        rule = request.data if request.kind == WRITE else payload_of(request.data)
+        return [name, *seen_in_refused_rule(name, rule, int(number), int(place))]
+    return [name, *with_kinds(name, payload_of(request.data))] if name == "compile ok" else [name]
+
+
+def seen_in_refused_rule(name, rule, number, place):
+    if number == 16:
+        return [f"{name}, {kind}" for kind in kinds_of_cycle(tree_of(rule), place)]
+    return kinds_behind(rule, number)
 
 
 def with_kinds(shown, rule):
-    return [f"{shown}, {kind}" for kind in dead_kinds(rule)]
+    return [f"{shown}, {kind}" for kind in (*dead_kinds(rule), *kinds_of_good(parse(rule)))]
 
 
 def seen_in_run(request, answer):
@@ -110,7 +124,9 @@ def seen_in_run(request, answer):
     records = [list(map(int, words[row * size:(row + 1) * size])) for row in range(request.rows)]
     names = ["run ok", *[f"run status {record[0]}" for record in records]]
     names += kinds_of_accepted(request, int(reply.split()[1]), records)
-    return names + seen_in_accepted(rule) + seen_in_faults(parse(rule), records)
+    kinds = seen_in_accepted(rule)
+    names += kinds_of_run(request, records) if f"run ok, {BACK}" in kinds else []
+    return names + kinds + seen_in_faults(parse(rule), records)
 
 
 def seen_in_refused(run, number, place):
@@ -118,7 +134,9 @@ def seen_in_refused(run, number, place):
         return [f"run refused 12 at {place}", *seen_in_short(run, place)]
     if number == 13:
         return kinds_of_13(run)
-    return kinds_of_14(run, place) if number == 14 else seen_in_outdated(run.plan)
+    if number == 14:
+        return kinds_of_14(run, place)
+    return seen_in_outdated(run.plan) + kinds_of_plan(run.plan)
 
 
 def seen_in_short(run, place):
@@ -154,13 +172,13 @@ def seen_in_outdated(plan):
         outdated = plan == old_plan(rule) != compile_rule(rule)
     except Refusal:
         return []
-    return with_kinds(OUTDATED, rule) if outdated else []
+    return [f"{OUTDATED}, {kind}" for kind in dead_kinds(rule)] if outdated else []
 
 
 def seen_in_accepted(rule):
     """The kinds of dead blocks in a rule that ran, and whether its old plan would have run too."""
     names = with_kinds("run ok", rule)
-    return names + [STILL_GOOD] if names and old_plan(rule) == compile_rule(rule) else names
+    return names + [STILL_GOOD] if dead_kinds(rule) and old_plan(rule) == compile_rule(rule) else names
 
 
 def reply_name(call, answer):

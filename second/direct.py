@@ -40,7 +40,7 @@ def run_row(rule, arguments, budget, quota):
 
 
 def run_round(rule, block, store, labels, quota):
-    """Runs from a block to the next taken jump and gives the jump's target."""
+    """Runs from a block to the next taken jump, as the gotos form no cycle, and gives the jump's target."""
     while True:
         for statement in rule.blocks[block].statements:
             run_statement(statement, store, labels, quota)

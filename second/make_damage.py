@@ -7,11 +7,12 @@ import struct
 
 import build
 from files import CHECK_AT, PAGE_SIZE, PAYLOAD_AT, PAYLOAD_SIZE, pages_of, sealed
+from gotos import goes_back
 from make_rules import (ENDING_LEVELS, VALUE_LEVELS, Place, condition, deep_condition, deep_ending,
                         deep_expression, expression, stretched)
 from plan import ENTRY_SIZE, body_offset, carried_rule, compile_rule
 from refusal import Refusal
-from rule import HEADER_SIZE, LONGEST_RULE, parse
+from rule import HEADER_SIZE, LONGEST_RULE, parse, tree_of
 
 # The bytes next to the four runs of tags, where a careless comparison lets one through.
 NEAR_TAGS = (0x00, 0x0A, 0x0F, 0x15, 0x1F, 0x22, 0x2F, 0x34, 0xFF)
@@ -78,8 +79,9 @@ def bad_variable(dice, place):
 
 
 def bad_target(dice, place):
-    ending = dice.pick((build.goto(place.block), build.goto(dice.below(place.block + 1)), build.goto(255),
-                        build.goto(place.blocks), build.jump(place.blocks), build.jump(255)))
+    """A number with no block, or a goto to its own block, which is a cycle."""
+    ending = dice.pick((build.goto(place.blocks), build.goto(place.blocks), build.goto(255),
+                        build.jump(place.blocks), build.jump(255), build.goto(place.block)))
     if dice.one_in(2):
         return ending
     return build.choose(condition(dice, place, 3), build.stop(), ending)
@@ -223,6 +225,19 @@ def bad_body(dice, plan):
     return replaced(plan, at, dice.below(256))
 
 
+def bad_order(dice, plan):
+    """Two order bytes in each other's place, often neighbours, or one changed; of other plans the body."""
+    at, count = body_offset(plan[3]), plan[3]
+    if not goes_back(tree_of(carried_rule(plan)).gotos):
+        return bad_body(dice, plan)
+    if dice.one_in(4):
+        byte = dice.pick((0, count - 1, count, 255, dice.below(count)))
+        return replaced(plan, at + dice.below(count), byte)
+    first, step = dice.below(count - 1), dice.pick((1, 1, 1, dice.between(1, count - 1)))
+    other = at + min(first + step, count - 1)
+    return replaced(replaced(plan, at + first, plan[other]), other, plan[at + first])
+
+
 def bad_plan_header(dice, plan):
     return replaced(plan, dice.below(HEADER_SIZE), dice.pick((0, 1, 2, 16, 17, 64, 65, 255)))
 
@@ -230,7 +245,8 @@ def bad_plan_header(dice, plan):
 def short_plan(dice, plan):
     """Cut anywhere, with the ends of its parts among the places."""
     body_at = body_offset(plan[3])
-    return plan[:dice.pick((0, 3, 4, 5, 6, body_at - 1, body_at, len(plan) - 1, dice.below(len(plan))))]
+    return plan[:dice.pick((0, 3, 4, 5, 6, body_at - 1, body_at, body_at + plan[3], len(plan) - 1,
+                            dice.below(len(plan))))]
 
 
 def overlong_plan(dice, plan):
@@ -238,8 +254,8 @@ def overlong_plan(dice, plan):
     return compile_rule(overlong_rule(dice, carried_rule(plan)))
 
 
-PLAN_DAMAGES = ((4, bad_loop_mask), (10, bad_entry), (4, bad_body), (2, bad_plan_header), (3, short_plan),
-                (2, lengthened))
+PLAN_DAMAGES = ((4, bad_loop_mask), (10, bad_entry), (4, bad_body), (8, bad_order), (2, bad_plan_header),
+                (3, short_plan), (2, lengthened))
 
 
 def damaged_plan(dice, plan):

@@ -1,4 +1,7 @@
-"""Good rules by dice, in shapes that a blind choice of bytes would hardly ever hit."""
+"""Good rules by dice, in shapes that a blind choice of bytes would hardly ever hit.
+
+Their gotos go forward; make_orders.py turns them.
+"""
 
 from typing import NamedTuple
 
@@ -277,20 +280,3 @@ def stretched(dice, rule, length):
     while (rest := missing - len(padding)) > 0:
         padding += build.assign(0, itself if rest % 5 else build.negate(itself))
     return rule[:HEADER_SIZE] + padding + rule[HEADER_SIZE:]
-
-
-SHAPES = ((6, wild), (8, countdown), (6, forever), (5, with_dead), (2, corner_sums), (2, deep), (1, crowded),
-          (1, wide))
-
-
-def small_rule(dice):
-    """A good rule of no shape's full size: none comes near the greatest length."""
-    return dice.weighted(SHAPES)(dice)
-
-
-def any_rule(dice):
-    """A good rule; one in a few dozen is stretched to a length at an edge."""
-    rule = small_rule(dice)
-    length = dice.pick(EDGES)
-    roomy = length - len(rule) >= 12
-    return stretched(dice, rule, length) if roomy and dice.one_in(25) else rule

@@ -5,9 +5,12 @@ from dead import old_plan
 from direct import LEAST, run_row
 from faults import fault_at
 from make_budgets import HUGE, listed, own_budgets, some_budgets, too_high, wrong_number
-from make_damage import damaged_plan, overlong_plan
+from make_any import any_rule, small_rule
+from make_damage import bad_order, damaged_plan, overlong_plan
 from make_faults import SURE, faulting, row_fault, sure_fault
-from make_rules import CORNERS, any_rule, corner_sums, forever, number, small_rule, tick, with_dead
+from make_orders import all_back, cyclic, mixed, woven
+from make_rules import CORNERS, corner_sums, forever, number, tick, with_dead
+from orders import kinds_of_plan, wrong_plans
 from plan import accept, carried_rule, compile_rule
 from rule import parse
 from stream import Run
@@ -17,8 +20,9 @@ WRAPS = 2**32 - record_size(0)  # a quota whose records would have a size that w
 
 def good_run(dice):
     """Few rows and rounds mostly; the large kinds are rare, as they are long in stream and time."""
-    make = dice.weighted(((100, few_rows), (30, corner_rows), (50, fault_rows), (20, ends_apart),
-                          (4, full_batch), (1, endless), (1, endless_beside), (1, ends_late)))
+    make = dice.weighted(((100, few_rows), (30, corner_rows), (70, fault_rows), (20, ends_apart),
+                          (80, woven_rows), (4, rows_all_back), (4, full_batch), (1, endless),
+                          (1, endless_beside), (1, ends_late)))
     return make(dice)
 
 
@@ -30,6 +34,14 @@ def few_rows_of(dice, rule):
     rows = dice.pick((0, 1, 1, 2, 3, 4, 5, 6))
     budgets = some_budgets(dice, rows, (0, 1, 2, 2, 3, 4, 6, 9, 13, 40))
     return roomy_run(dice, rule, rows, budgets, some_values(dice, rows * rule[2]))
+
+
+def woven_rows(dice):
+    return few_rows_of(dice, woven(dice))
+
+
+def rows_all_back(dice):
+    return few_rows_of(dice, all_back(dice))
 
 
 def corner_rows(dice):
@@ -45,7 +57,9 @@ def fault_rows(dice):
 def fault_rows_of(dice, fault):
     rows = dice.between(1, 6)
     budgets = some_budgets(dice, rows, (1, 2, 3, 4, 5))
-    return roomy_run(dice, faulting(dice, fault), rows, budgets, corner_pairs(dice, rows))
+    rule = faulting(dice, fault)
+    rule = mixed(dice, rule) if dice.one_in(3) else rule
+    return roomy_run(dice, rule, rows, budgets, corner_pairs(dice, rows))
 
 
 def sure_fault_run(tag, place):
@@ -117,9 +131,32 @@ def with_budgets(rows, budgets):
 
 def old_run(dice):
     """A plan from before K3, with room for the widest lines, so that nothing else speaks against it."""
-    run = few_rows_of(dice, with_dead(dice))
+    rule = with_dead(dice)
+    run = few_rows_of(dice, mixed(dice, rule) if dice.one_in(3) else rule)
     return run._replace(plan=old_plan(carried_rule(run.plan)),
                         working_room=run.rows * line_size(MOST_COLUMNS))
+
+
+def misordered_run(dice):
+    """A plan wrong in its order bytes alone, or of a rule with a cycle, with room for the widest lines."""
+    rows, make = dice.below(4), dice.pick((cyclic, woven, woven, woven, any_rule))
+    rule = make(dice)
+    if make == woven and dice.one_in(4):
+        plan = bad_order(dice, compile_rule(rule))
+    else:
+        plan = dice.pick(list(wrong_plans(rule).values()))
+    return Run(rows, dice.pick((0, 1, 5)), 2, rows * record_size(2), rows * line_size(MOST_COLUMNS), plan,
+               some_values(dice, rows * rule[2]))
+
+
+def sure_misordered_run(kind):
+    """A maker of runs with a plan that is wrong in this way: tries until one is."""
+    def make(dice):
+        while True:
+            run = misordered_run(dice)
+            if f"run refused 15, {kind}" in kinds_of_plan(run.plan):
+                return run
+    return make
 
 
 def overlong_carried(dice):
@@ -199,6 +236,8 @@ def run_request(dice):
     """Two wrongs at once show which of them is answered."""
     if dice.one_in(5):
         return wrong_budgets(dice)
+    if dice.one_in(7):
+        return misordered_run(dice)
     run = old_run(dice) if dice.one_in(12) else good_run(dice)
     if dice.one_in(2):
         return more_room(dice, run) if dice.one_in(2) else run

@@ -7,6 +7,7 @@ own tag as its first part.
 
 from typing import NamedTuple
 
+from gotos import lowest_on_cycle
 from refusal import Refusal
 
 LONGEST_RULE = 4064
@@ -45,8 +46,8 @@ PARTS = {
     OR: ("condition", "condition"),
     SET: ("variable", "expression"),
     EMIT: ("expression",),
-    GOTO: ("later block",),
-    JUMP: ("any block",),
+    GOTO: ("goto target",),
+    JUMP: ("block",),
     STOP: (),
     IF: ("condition", "ending", "ending"),
 }
@@ -62,17 +63,27 @@ class Rule(NamedTuple):
     variables: int
     arguments: int
     blocks: list
+    gotos: list  # for each block the set of blocks that its gotos name, whichever arm they stand in
 
 
 def parse(rule):
-    """The tree of a rule; the limit on its length is the callers' own."""
+    """The tree of a good rule; the limit on its length is the callers' own."""
+    tree = tree_of(rule)
+    lowest = lowest_on_cycle(tree.gotos)
+    if lowest is not None:
+        raise Refusal(16, lowest)
+    return tree
+
+
+def tree_of(rule):
+    """The tree of a rule by its bytes alone, be there cycles of gotos or not."""
     check_header(rule)
     _, variables, arguments, count = rule[:HEADER_SIZE]
     reader = Reader(rule)
-    blocks = [reader.block(number) for number in range(count)]
+    blocks = [reader.block() for _ in range(count)]
     if reader.at < len(rule):
         raise Refusal(10, reader.at)
-    return Rule(variables, arguments, blocks)
+    return Rule(variables, arguments, blocks, reader.gotos)
 
 
 def check_header(rule):
@@ -90,17 +101,17 @@ class Reader:
     def __init__(self, rule):
         self.rule = rule
         self.at = HEADER_SIZE
-        self.block_number = 0
+        self.gotos = []  # of the blocks begun so far
         self.leaves = {
             "own offset": self.own_offset,
             "constant": self.constant,
             "variable": self.variable,
-            "later block": self.later_block,
-            "any block": self.any_block,
+            "goto target": self.goto_target,
+            "block": self.block_number,
         }
 
-    def block(self, number):
-        self.block_number = number
+    def block(self):
+        self.gotos.append(set())
         start = self.at
         statements = []
         step = self.node("step", 1)
@@ -144,10 +155,12 @@ class Reader:
     def variable(self):
         return self.number_in(range(self.rule[1]), 6)
 
-    def later_block(self):
-        return self.number_in(range(self.block_number + 1, self.rule[3]), 7)
+    def goto_target(self):
+        target = self.block_number()
+        self.gotos[-1].add(target)
+        return target
 
-    def any_block(self):
+    def block_number(self):
         return self.number_in(range(self.rule[3]), 7)
 
     def number_in(self, allowed, refusal):

@@ -18,7 +18,7 @@ from build import (add, assign, case, choose, divide, emit, goto, jump, less, mu
 from files import pages_of
 from refusal import Refusal
 
-PLAN_ROOM = 4578
+PLAN_ROOM = 4642
 RESULT_ROOM = calls.MOST_ROWS * calls.record_size(calls.MOST_LABELS)
 WORKING_ROOM = calls.MOST_ROWS * calls.line_size(calls.MOST_COLUMNS)
 LONGEST_FILE, LONGEST_BATCH = 4096, 12 + 4 * 256 * 16
@@ -58,11 +58,13 @@ PAGES = {
     "header": pages_of(SUM[:2] + bytes([3]) + SUM[3:]),
     "tag": pages_of(rule(1, 0, [b"\x15"])),
     "variable": pages_of(rule(1, 0, [emit(variable(1)) + stop()])),
-    "target": pages_of(rule(1, 0, [goto(0)])),
+    "target": pages_of(rule(1, 0, [goto(1)])),
+    "cycle": pages_of(rule(1, 0, [stop(), goto(2), goto(1)])),
     "deep": pages_of(rule(1, 0, [emit(nested(9)) + stop()])),
     "early": pages_of(SUM[:4]),
     "after": pages_of(SUM + stop()),
     "sum": pages_of(SUM),
+    "goes_back": pages_of(rule(1, 1, [emit(variable(0)) + goto(2), emit(number(7)) + stop(), goto(1)])),
     "stops": pages_of(rule(16, 16, [stop()])),
     "divides": pages_of(rule(1, 1, [emit(variable(0)) + emit(divide(number(6), variable(0))) + stop()])),
 }

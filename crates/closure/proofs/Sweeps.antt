@@ -1,19 +1,16 @@
 -- What a turn of a sweep does, and that a sweep which adds nothing has found the smallest closed set. Assumes nothing.
 use mathlib.Core.Path.{_≡_, sym, _∙_}
 use mathlib.Core.Bool.{Bool, true, false, _&&_, false≢true}
-use mathlib.Core.Logic.{_⊎_, inl, inr, ⊎-elim}
+use mathlib.Core.Logic.{_⊎_, ⊎-elim}
 use Prim.Native.Nat.{ℕ, _-_, _≤_, _<_}
 use native.Mathlib.Omega.{arith}
 use Rattle.definitions.specs.Columns.{some, grown}
 use Rattle.definitions.specs.Batch.{countTo}
-use Rattle.definitions.proofs.Tests.{clash, less-or, and-both, and-parts, some-in, some-out}
+use Rattle.definitions.proofs.Tests.{clash, less-or, same-or, and-both, and-parts, some-in, some-out}
 use Rattle.definitions.specs.Smallest.{Within, Closed, Smallest}
 use Rattle.definitions.proofs.Counts.{count-le, count-mono, count-less}
 use Rattle.definitions.proofs.Reached.{grown-case, grown-mono, still-closed}
 use Rattle.closure.specs.Sweep.{Sweep}
-
-is-or : (c d : ℕ) → (c ≡ d) ⊎ (c ≡ d → ⊥)
-is-or c d = ⊎-elim (λ p. inr (λ e. omega arith)) (λ p. ⊎-elim (λ q. inr (λ e. omega arith)) (λ q. inl (omega arith)) (less-or d c)) (less-or c d)
 
 module _ (n : ℕ) (edge : ℕ → ℕ → Bool) (old : ℕ → Bool) where
   pub sweep-none : Sweep n edge old n old false
@@ -57,14 +54,14 @@ module _ (n : ℕ) (edge : ℕ → ℕ → Bool) (old : ℕ → Bool) where
         (λ e. rw e (let r = some-out n (λ t. edge (b - 1) t && new t) g in let q = and-parts (edge (b - 1) (r .0)) (new (r .0)) (r .2) in
         k (b - 1) (r .0) (omega arith) (r .1) (q .0) (s .sound u k w (r .0) (r .1) (q .1))))
         (λ o. s .sound u k w c h (sym (y c o) ∙ p))
-        (is-or c (b - 1));
+        (same-or c (b - 1));
     same = λ e. absurd (false≢true (sym e));
     idle = λ e. absurd (false≢true (sym e));
     busy = λ e. omega (arith, count-mono n old new (s .keeps), count-less n new next grows (b - 1) (omega arith) f x);
   }
     where
       grows : Within n new next
-      grows c h p = ⊎-elim (λ e. rw e x) (λ o. y c o ∙ p) (is-or c (b - 1))
+      grows c h p = ⊎-elim (λ e. rw e x) (λ o. y c o ∙ p) (same-or c (b - 1))
 
   -- ---- sweep after sweep
   -- a set within every closed one stays so

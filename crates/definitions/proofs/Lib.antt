@@ -4,6 +4,12 @@ pub mod Smallest
 pub mod Reached
 pub mod Columns
 pub mod Led
+pub mod Lowest
+pub mod Paths
+pub mod Cycled
+pub mod Ranks
+pub mod Orders
+pub mod Ordered
 pub mod Agreeing
 pub mod Masks
 pub mod Values

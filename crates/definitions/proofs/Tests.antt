@@ -35,6 +35,10 @@ pub not-so : (x : Bool) → (x ≡ true → ⊥) → x ≡ false
 not-so true h = absurd (h refl)
 not-so false h = refl
 
+pub must-be : (x : Bool) → (x ≡ false → ⊥) → x ≡ true
+must-be true h = refl
+must-be false h = absurd (h refl)
+
 pub both-ways : (x y : Bool) → (x ≡ true → y ≡ true) → (y ≡ true → x ≡ true) → x ≡ y
 both-ways true y f g = sym (f refl)
 both-ways false true f g = g refl
@@ -47,6 +51,12 @@ less-or a b = go (ltb a b) refl
     go : (x : Bool) → ltb a b ≡ x → (a < b) ⊎ (b ≤ a)
     go true e = inl (ltb-true a b e)
     go false e = inr (ltb-false a b e)
+
+pub neither-less : (a b : ℕ) → (a < b → ⊥) → (b < a → ⊥) → a ≡ b
+neither-less a b f g = ⊎-elim (λ h. absurd (f h)) (λ h. ⊎-elim (λ k. absurd (g k)) (λ k. omega arith) (less-or b a)) (less-or a b)
+
+pub same-or : (a b : ℕ) → (a ≡ b) ⊎ (a ≡ b → ⊥)
+same-or a b = ⊎-elim (λ h. inr (λ e. omega arith)) (λ h. ⊎-elim (λ k. inr (λ e. omega arith)) (λ k. inl (omega arith)) (less-or b a)) (less-or a b)
 
 pub last-or : {t n : ℕ} → t < suc n → (t ≡ n) ⊎ (t < n)
 last-or h = eq-or-lt-of-le (le-of-suc-le-suc h)

@@ -12,12 +12,14 @@ use Rattle.definitions.specs.Values.{Word, number, value, fault, settled
 use Rattle.definitions.specs.Rule.{Add, Multiply, Divide, Remainder, Less, Equal, And, Or}
 use Rattle.definitions.specs.Rule.{Expr, Cond, Const, Var, Neg, Op, Case, Compare, Not, Join, Stmt, Set, Emit, End, Goto, Jump, Stop, If, Block, Rule}
 use Rattle.definitions.specs.Grammar.{Got, got, refused, then, twos, exprTag, opTag, badExpr, condTag, compareTag, notTag, joinTag, badCond, stmtTag, noStmt, endTag, badEnd}
-use Rattle.definitions.specs.Grammar.{targetsOf, exprAt, condAt, endAt, blockFrom, blocksTo, headed, ruleOf}
+use Rattle.definitions.specs.Grammar.{exprAt, condAt, endAt, blockFrom, blocksTo, headed, parsed, ruleOf}
 use Rattle.definitions.specs.Meaning.{atByte, eval, holds}
 use Rattle.definitions.specs.Direct.{start, step, steps, exit, walk, advanceFrom, afterFrom, after}
 use Rattle.definitions.specs.Spelling.{exprBytes, condBytes, stmtBytes, endBytes, inTurn, blockBytes}
 use Rattle.definitions.specs.Columns.{flowOver, flowOf, ledTo, J, some, reads, looks, endLooks, readFirst, sets, goesTo, jumpsTo, outputs, from, grown, growths, closure, inputsOf, outputsOf}
-use Rattle.definitions.specs.Plan.{maskOf, entryOf, entriesTo, planBy, planOf, same, planned, asPlan}
+use Rattle.definitions.specs.Order.{lowestOf, waits, free, orderTo, goesBack}
+use Rattle.definitions.specs.Cycles.{cycleOf}
+use Rattle.definitions.specs.Plan.{orderBytes, maskOf, entryOf, entriesTo, planBy, planOf, same, planned, asPlan}
 use Rattle.definitions.specs.Pages.{lengthIn, wordSum, checkOf, pageBody, pageOf, pagesTo, fileOf, sizeOk, allZero, lengthOk, pageAt, payloadTo, unpacked}
 use Rattle.definitions.specs.Batch.{Budgets, common, each, startsOf, mapFrom, statesOf, recordOf, recordsOf, countTo, columnsOf, linesFrom, liveOf, mostOf}
 use Rattle.definitions.specs.Finder.{isNumber, lineIndex, linePart, foundIn}
@@ -82,6 +84,36 @@ divides = record { form = 1; variables = 1; arguments = 1; blocks = block (Emit 
 abbrev blocks : ℕ → List ℕ → Got ℕ
 blocks n s = then (ruleOf (0x01 ∷ 0x01 ∷ 0x00 ∷ n ∷ s)) (λ r end. got end end)
 
+-- a rule with a goto back, and its plan
+abbrev goingBack : List ℕ
+goingBack = 0x01 ∷ 0x01 ∷ 0x00 ∷ 0x03 ∷ 0x30 ∷ 0x02 ∷ 0x32 ∷ 0x30 ∷ 0x01 ∷ []
+
+abbrev goingBackPlan : List ℕ
+goingBackPlan =
+    0x01 ∷ 0x01 ∷ 0x00 ∷ 0x03 ∷ 0 ∷ 0
+    ∷ 33 ∷ 0 ∷ 0 ∷ 0 ∷ 0 ∷ 0 ∷ 1 ∷ 0
+    ∷ 35 ∷ 0 ∷ 0 ∷ 0 ∷ 0 ∷ 0 ∷ 0 ∷ 0
+    ∷ 36 ∷ 0 ∷ 0 ∷ 0 ∷ 0 ∷ 0 ∷ 0 ∷ 0
+    ∷ 0 ∷ 2 ∷ 1
+    ∷ drop 4 goingBack
+
+-- its plan with no order, and bodies that begin right after the entries
+abbrev goingBackUnordered : List ℕ
+goingBackUnordered =
+    0x01 ∷ 0x01 ∷ 0x00 ∷ 0x03 ∷ 0 ∷ 0
+    ∷ 30 ∷ 0 ∷ 0 ∷ 0 ∷ 0 ∷ 0 ∷ 1 ∷ 0
+    ∷ 32 ∷ 0 ∷ 0 ∷ 0 ∷ 0 ∷ 0 ∷ 0 ∷ 0
+    ∷ 33 ∷ 0 ∷ 0 ∷ 0 ∷ 0 ∷ 0 ∷ 0 ∷ 0
+    ∷ drop 4 goingBack
+
+-- blocks 0 and 1 stop; block 2, which nothing leads to, goes back to 1
+abbrev deadBack : List ℕ
+deadBack = 0x01 ∷ 0x01 ∷ 0x00 ∷ 0x03 ∷ 0x32 ∷ 0x32 ∷ 0x30 ∷ 0x01 ∷ []
+
+-- two blocks that go to each other
+abbrev turning : List ℕ
+turning = 0x01 ∷ 0x01 ∷ 0x00 ∷ 0x02 ∷ 0x30 ∷ 0x01 ∷ 0x30 ∷ 0x00 ∷ []
+
 -- an if before these bytes, with a condition of depth 2
 abbrev branch : List ℕ → List ℕ
 branch rest = 0x33 ∷ 0x11 ∷ 0x02 ∷ 0x00 ∷ 0x02 ∷ 0x00 ∷ rest
@@ -137,18 +169,21 @@ ofRules =
     ∷ ((blocks 1 (branch (branch (branch (replicate 4 0x32)))) ≡ got 26 26) × (blocks 1 (branch (branch (branch (branch (replicate 5 0x32))))) ≡ refused 8 28))
     -- 9: a variable that there is not, read and set
     ∷ ((blocks 1 (0x21 ∷ 0x02 ∷ 0x01 ∷ []) ≡ refused 6 6) × (blocks 1 (0x20 ∷ 0x01 ∷ []) ≡ refused 6 5))
-    -- 10: a goto goes to a later block, a jump to any, and neither to one that there is not
+    -- 10: a goto and a jump go to any block that there is
     ∷ ((blocks 2 (0x30 ∷ 0x01 ∷ 0x31 ∷ 0x00 ∷ []) ≡ got 8 8) × (blocks 2 (0x30 ∷ 0x02 ∷ []) ≡ refused 7 5) × (blocks 2 (0x31 ∷ 0x02 ∷ []) ≡ refused 7 5))
+    -- 46: gotos of two blocks and of one that form a cycle, told at the lowest; a cycle that nothing leads to; the arm of an if; a jump closes no cycle; 7 and 10 come first
+    ∷ ((blocks 3 (0x32 ∷ 0x30 ∷ 0x02 ∷ 0x30 ∷ 0x01 ∷ []) ≡ refused 16 1) × (blocks 2 (0x32 ∷ 0x30 ∷ 0x01 ∷ []) ≡ refused 16 1) × (blocks 2 (branch (0x32 ∷ 0x30 ∷ 0x01 ∷ 0x30 ∷ 0x00 ∷ [])) ≡ refused 16 0)
+    × (blocks 2 (0x30 ∷ 0x01 ∷ 0x31 ∷ 0x00 ∷ []) ≡ got 8 8) × (blocks 2 (0x30 ∷ 0x00 ∷ 0x30 ∷ 0x02 ∷ []) ≡ refused 7 7) × (blocks 1 (0x30 ∷ 0x00 ∷ 0x32 ∷ []) ≡ refused 10 6))
     -- 11: a constant that is cut, and bytes after the last block
     ∷ ((exprAt 1 1 (0x01 ∷ 0 ∷ []) 0 ≡ refused 9 2) × (blocks 1 (0x32 ∷ 0x32 ∷ []) ≡ refused 10 5))
     -- 12: at one place 9 goes before 8, and 8 before 5
-    ∷ ((exprAt 0 1 [] 0 ≡ refused 9 0) × (exprAt 0 1 (0xFF ∷ []) 0 ≡ refused 8 0) × (exprAt 1 1 (0xFF ∷ []) 0 ≡ refused 5 0) × (condAt 0 1 (0xFF ∷ []) 0 ≡ refused 8 0) × (condAt 1 1 (0xFF ∷ []) 0 ≡ refused 5 0) × (endAt 1 (targetsOf 1 0) 1 (0xFF ∷ []) 0 ≡ refused 5 0))
+    ∷ ((exprAt 0 1 [] 0 ≡ refused 9 0) × (exprAt 0 1 (0xFF ∷ []) 0 ≡ refused 8 0) × (exprAt 1 1 (0xFF ∷ []) 0 ≡ refused 5 0) × (condAt 0 1 (0xFF ∷ []) 0 ≡ refused 8 0) × (condAt 1 1 (0xFF ∷ []) 0 ≡ refused 5 0) × (endAt 1 1 1 (0xFF ∷ []) 0 ≡ refused 5 0))
     ∷ []
 
 pub rules-hold : All ofRules
-unfolding ofRules twos exprAt condAt endAt blockFrom blocksTo headed ruleOf
+unfolding ofRules twos exprAt condAt endAt blockFrom blocksTo headed parsed ruleOf some goesTo jumpsTo from grown growths closure ledTo lowestOf cycleOf
 rules-hold =
-    ((refl, refl, refl, refl, refl, refl, refl), ((refl, refl, refl, refl, refl), ((refl, refl), ((refl, refl, refl, refl, refl, refl), ((refl, refl), ((refl, refl, refl), ((refl, refl), ((refl, refl), ((refl, refl), ((refl, refl, refl), ((refl, refl), ((refl, refl, refl, refl, refl, refl), tt))))))))))))
+    ((refl, refl, refl, refl, refl, refl, refl), ((refl, refl, refl, refl, refl), ((refl, refl), ((refl, refl, refl, refl, refl, refl), ((refl, refl), ((refl, refl, refl), ((refl, refl), ((refl, refl), ((refl, refl), ((refl, refl, refl), ((refl, refl, refl, refl, refl, refl), ((refl, refl), ((refl, refl, refl, refl, refl, refl), tt)))))))))))))
 
 -- ---- meaning
 
@@ -224,15 +259,22 @@ ofColumns =
     ∷ ((then (ruleOf deadEnd) (λ r n. got (planOf r deadEnd) n) ≡ got deadEndPlan 10)
     × (then (ruleOf deadEnd) (λ r n. got (planBy (flowOver (λ _. true) r) r deadEnd) n) ≡ got deadEndBefore 10)
     × (planned deadEndBefore ≡ refused 15 0))
+    -- 47: block 0 goes to 2 and 2 back to 1: the order 0, 2, 1 stands between the entries and the bodies, and counts in their offsets; a plan without it, or in another order, is none
+    ∷ ((then (ruleOf goingBack) (λ r n. got (planOf r goingBack) n) ≡ got goingBackPlan 9) × (planned goingBackPlan ≡ ruleOf goingBack)
+    × (planned goingBackUnordered ≡ refused 15 0) × (planned (take 31 goingBackPlan ++ (1 ∷ 2 ∷ drop 33 goingBackPlan)) ≡ refused 15 0))
+    -- 47, dead blocks: a goto back in a dead block only asks for the order too, and counts in it
+    ∷ (then (ruleOf deadBack) (λ r n. got (orderBytes r) n) ≡ got (0 ∷ 2 ∷ 1 ∷ []) 8)
+    -- 47, cycles: what would be the plan of a rule with a cycle is none: of two blocks, and of one that goes to itself
+    ∷ ((then (parsed turning) (λ r n. planned (planOf r turning)) ≡ refused 15 0) × (planned (take 14 smallestPlan ++ (0x30 ∷ 0 ∷ [])) ≡ refused 15 0))
     -- 26: no plan: another mask, a byte more, a rule that is too long
     ∷ ((planned (take 4 planR ++ (1 ∷ drop 5 planR)) ≡ refused 15 0) × (planned (planR ++ (0 ∷ [])) ≡ refused 15 0) × ((p : List ℕ) (r : Rule) → asPlan p (got r 4065) ≡ refused 15 0))
     ∷ []
 
 pub columns-hold : All ofColumns
-unfolding ofColumns twos exprAt condAt endAt blockFrom blocksTo headed ruleOf
-    some reads looks endLooks readFirst sets goesTo jumpsTo outputs from grown growths closure ledTo inputsOf maskOf entryOf entriesTo planBy same planned
+unfolding ofColumns twos exprAt condAt endAt blockFrom blocksTo headed parsed ruleOf
+    some reads looks endLooks readFirst sets goesTo jumpsTo outputs from grown growths closure ledTo lowestOf waits free orderTo cycleOf goesBack orderBytes inputsOf maskOf entryOf entriesTo planBy same planned
 columns-hold =
-    ((refl, refl, refl, refl), ((refl, refl), ((refl, (refl, refl), refl, (refl, refl)), ((refl, refl, (refl, refl), refl, refl), ((refl, refl), ((refl, refl, refl), ((refl, refl, λ p r. refl), tt)))))))
+    ((refl, refl, refl, refl), ((refl, refl), ((refl, (refl, refl), refl, (refl, refl)), ((refl, refl, (refl, refl), refl, refl), ((refl, refl), ((refl, refl, refl), ((refl, refl, refl, refl), (refl, ((refl, refl), ((refl, refl, λ p r. refl), tt))))))))))
 
 -- ---- files
 
@@ -272,9 +314,9 @@ ofBatch =
     ∷ []
 
 pub batch-hold : All ofBatch
-unfolding ofBatch twos exprAt condAt endAt blockFrom blocksTo headed ruleOf
+unfolding ofBatch twos exprAt condAt endAt blockFrom blocksTo headed parsed ruleOf
     settled quotient eval holds step steps exit walk advanceFrom afterFrom exprBytes condBytes stmtBytes endBytes inTurn blockBytes
-    some reads looks endLooks readFirst sets goesTo jumpsTo outputs from grown growths closure ledTo inputsOf maskOf entryOf entriesTo planBy same planned
+    some reads looks endLooks readFirst sets goesTo jumpsTo outputs from grown growths closure ledTo lowestOf cycleOf goesBack orderBytes inputsOf maskOf entryOf entriesTo planBy same planned
     startsOf mapFrom recordsOf countTo columnsOf linesFrom liveOf mostOf firstOver ranReply runReply recordsIn tableIn
 batch-hold =
     (refl, (refl, ((refl, refl), (refl, (refl, tt)))))
@@ -316,8 +358,8 @@ ofReplies =
     ∷ []
 
 pub replies-hold : All ofReplies
-unfolding ofReplies twos exprAt condAt endAt blockFrom blocksTo headed ruleOf
-    steps exit walk advanceFrom afterFrom exprBytes condBytes stmtBytes endBytes inTurn blockBytes some reads looks endLooks readFirst sets goesTo jumpsTo outputs from grown growths closure ledTo inputsOf maskOf entryOf entriesTo planBy same planned
+unfolding ofReplies twos exprAt condAt endAt blockFrom blocksTo headed parsed ruleOf
+    steps exit walk advanceFrom afterFrom exprBytes condBytes stmtBytes endBytes inTurn blockBytes some reads looks endLooks readFirst sets goesTo jumpsTo outputs from grown growths closure ledTo lowestOf cycleOf goesBack orderBytes inputsOf maskOf entryOf entriesTo planBy same planned
     lengthIn wordSum checkOf pageBody pageOf pagesTo fileOf allZero lengthOk pageAt payloadTo unpacked startsOf mapFrom countTo mostOf toRead toWrite toCompile replyIn firstOver ranReply runReply
 replies-hold =
     ((refl, refl), ((refl, refl, refl, refl), ((refl, refl, refl, refl, refl), ((refl, refl, refl, refl, refl, refl), ((refl, refl, refl, refl, refl, refl, refl), ((refl, refl), tt))))))

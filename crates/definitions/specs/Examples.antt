@@ -8,12 +8,14 @@ use lib.IntN.{ℤ, pos, negℤ}
 use lib.ListN.{length, take, drop}
 use Rattle.definitions.specs.Values.{Word, number, unset, Out, value, fault, kindNumber, settled, product, quotient, remainder}
 use Rattle.definitions.specs.Rule.{Add, Subtract, Less, Const, Var, Op, Compare, Set, Emit, Goto, Jump, Stop, If, Block, Rule}
-use Rattle.definitions.specs.Grammar.{Got, got, refused, then, twos, exprAt, endAt, blockFrom, blocksTo, headed, ruleOf}
+use Rattle.definitions.specs.Grammar.{Got, got, refused, then, twos, exprAt, endAt, blockFrom, blocksTo, headed, parsed, ruleOf}
 use Rattle.definitions.specs.Spelling.{constantBytes, exprBytes, condBytes, stmtBytes, endBytes, inTurn, blockBytes, bytesOf}
 use Rattle.definitions.specs.Meaning.{atByte, eval}
 use Rattle.definitions.specs.Direct.{State, unfinished, step, steps, exit, walk, start, advanceFrom, afterFrom, after}
 use Rattle.definitions.specs.Columns.{some, reads, endLooks, readFirst, sets, goesTo, jumpsTo, outputs, from, grown, growths, closure, ledTo, inputsOf}
-use Rattle.definitions.specs.Plan.{maskOf, entryOf, entriesTo, planBy, planOf, same, planned}
+use Rattle.definitions.specs.Order.{lowestOf, goesBack}
+use Rattle.definitions.specs.Cycles.{cycleOf}
+use Rattle.definitions.specs.Plan.{orderBytes, maskOf, entryOf, entriesTo, planBy, planOf, same, planned}
 use Rattle.definitions.specs.Pages.{wordSum, checkOf, pageBody, pageOf, pagesTo, fileOf, allZero, lengthOk, pageAt, payloadTo, unpacked}
 use Rattle.definitions.specs.Batch.{common, startsOf, mapFrom, recordsOf, countTo, columnsOf, linesFrom, liveOf, mostOf}
 use Rattle.definitions.specs.Calls.{Batch, refusal, toCompile, toWrite, firstOver, ranReply, runReply, recordsIn, tableIn}
@@ -122,8 +124,8 @@ examples =
     ∷ (ran (record { plan = emitsFaultPlan; rows = 1; values = []; budgets = common 1; quota = 0 }) ≡ (Done 1, (words (2 ∷ 1 ∷ 0 ∷ 5 ∷ []), words (0 ∷ 0 ∷ 0 ∷ []))))
     -- E11: the smallest rule, and without its last byte
     ∷ ((length smallest ≡ 5) × (then (ruleOf smallest) (λ r n. got n n) ≡ got 5 5) × (toWrite (take 4 smallest) ≡ refused 9 4))
-    -- E12: a goto to its own block; with a jump it is accepted, and unfinished under every budget
-    ∷ ((ruleOf (0x01 ∷ 0x01 ∷ 0x00 ∷ 0x01 ∷ 0x30 ∷ 0x00 ∷ []) ≡ refused 7 5) × (ruleOf (0x01 ∷ 0x01 ∷ 0x00 ∷ 0x01 ∷ 0x31 ∷ 0x00 ∷ []) ≡ got endless 6)
+    -- E12: a goto to its own block is a cycle (K5); with a jump it is accepted, and unfinished under every budget
+    ∷ ((ruleOf (0x01 ∷ 0x01 ∷ 0x00 ∷ 0x01 ∷ 0x30 ∷ 0x00 ∷ []) ≡ refused 16 0) × (ruleOf (0x01 ∷ 0x01 ∷ 0x00 ∷ 0x01 ∷ 0x31 ∷ 0x00 ∷ []) ≡ got endless 6)
     × ((q n : ℕ) → after endless q n (start endless []) .finish .status ≡ 0))
     ∷ []
 
@@ -140,8 +142,8 @@ endless-after q zero = refl
 endless-after q (suc n) = rw (endless-after q n) (ap (λ k. record { finish = unfinished; begun = k; labels = []; block = 0; vars = unset ∷ [] }) (add-one n))
 
 pub examples-hold : All examples
-unfolding examples settled quotient remainder twos exprAt endAt blockFrom blocksTo headed ruleOf eval step steps exit walk advanceFrom afterFrom exprBytes condBytes stmtBytes endBytes inTurn blockBytes
-    some reads endLooks readFirst sets goesTo jumpsTo outputs from grown growths closure ledTo inputsOf maskOf entryOf entriesTo planBy same planned
+unfolding examples settled quotient remainder twos exprAt endAt blockFrom blocksTo headed parsed ruleOf eval step steps exit walk advanceFrom afterFrom exprBytes condBytes stmtBytes endBytes inTurn blockBytes
+    some reads endLooks readFirst sets goesTo jumpsTo outputs from grown growths closure ledTo lowestOf cycleOf goesBack orderBytes inputsOf maskOf entryOf entriesTo planBy same planned
     wordSum checkOf pageBody pageOf pagesTo fileOf startsOf mapFrom recordsOf countTo columnsOf linesFrom liveOf mostOf
     toWrite firstOver ranReply runReply recordsIn tableIn
 examples-hold =
@@ -149,5 +151,5 @@ examples-hold =
 
 -- R is read as its tree, and the tree is written as R; a constant below 0 is written in two's complement
 pub written : ((ruleOf R ≡ got treeR 45) × (bytesOf treeR ≡ R)) × ((constantBytes (minus 1) ≡ 0xFF ∷ 0xFF ∷ 0xFF ∷ 0xFF ∷ []) × (constantBytes (minus 2147483648) ≡ 0 ∷ 0 ∷ 0 ∷ 0x80 ∷ []))
-unfolding twos exprAt endAt blockFrom blocksTo headed ruleOf exprBytes stmtBytes endBytes inTurn blockBytes bytesOf
+unfolding twos exprAt endAt blockFrom blocksTo headed parsed ruleOf some goesTo jumpsTo from grown growths closure ledTo lowestOf cycleOf exprBytes stmtBytes endBytes inTurn blockBytes bytesOf
 written = ((refl, refl), (refl, refl))

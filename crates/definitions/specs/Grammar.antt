@@ -1,4 +1,4 @@
--- 01, The rule, byte by byte, and Reply numbers 4 to 10: which bytes are which rule, and how all others are refused. Reading goes from the
+-- 01, The rule, byte by byte, Reply numbers 4 to 10, and K5 of 02: which bytes are which rule, and how all others are refused. Reading goes from the
 -- left, so the refusal that is met first is the one that is given.
 use Prim.Native.Nat.{ℕ, zero, suc, _+_, _*_}
 use mathlib.Core.Bool.{Bool, cond, not, _&&_}
@@ -7,8 +7,9 @@ use lib.Dec.{ltb, leb, eqb}
 use lib.IntN.{ℤ, pos, _-ℤ_}
 use lib.ListN.{length, getD}
 use Rattle.definitions.specs.Rule.{Operator, Add, Subtract, Multiply, Divide, Remainder, Relation, Less, Equal, Joint, And, Or}
-use Rattle.definitions.specs.Rule.{Expr, Cond, Const, Var, Neg, Op, Case, Compare, Not, Join, Stmt, Set, Emit, End, Goto, Jump, Stop, If, Block, Rule}
-use Rattle.definitions.specs.declared.Targets.{Targets}
+use Rattle.definitions.specs.Rule.{Expr, Cond, Const, Var, Neg, Op, Case, Compare, Not, Join, Stmt, Set, Emit, End, Goto, Jump, Stop, If, Block, Rule, size}
+use Rattle.definitions.specs.Paths.{gotoIn}
+use Rattle.definitions.specs.Cycles.{cycleOf}
 use Rattle.definitions.specs.declared.Read.{Read}
 use Rattle.definitions.specs.declared.Read.the-variants.{Next, Refused}
 
@@ -58,24 +59,15 @@ constantIn s at = twos (wordOf (getD s at 0) (getD s (at + 1) 0) (getD s (at + 2
 abbrev pub constantAt : List ℕ → ℕ → Got ℤ
 constantAt s at = cond (leb (at + 4) (length s)) (got (constantIn s at) (at + 4)) (refused 9 (length s))
 
--- a variable's byte; 6 where it is not below v
+-- a byte that names one of so many; else it is refused with this number: 6 for a variable, 7 for a block
+abbrev pub belowAt : ℕ → ℕ → List ℕ → ℕ → Got ℕ
+belowAt high number s at = then (byteAt s at) (λ k n. cond (ltb k high) (got k n) (refused number at))
+
 abbrev pub variableAt : ℕ → List ℕ → ℕ → Got ℕ
-variableAt v s at = then (byteAt s at) (λ k n. cond (ltb k v) (got k n) (refused 6 at))
+variableAt v s at = belowAt v 6 s at
 
--- a block's byte; 7 where it is no allowed target
-abbrev pub targetAt : (ℕ → Bool) → List ℕ → ℕ → Got ℕ
-targetAt allowed s at = then (byteAt s at) (λ t n. cond (allowed t) (got t n) (refused 7 at))
-
--- where a goto may go, and where a jump may
-abbrev pub mayGoto : Targets → ℕ → Bool
-mayGoto ts t = leb (ts .lowest) t && ltb t (ts .blocks)
-
-abbrev pub mayJump : Targets → ℕ → Bool
-mayJump ts t = ltb t (ts .blocks)
-
--- the targets of block b, of n blocks: a goto goes only to a block with a higher number
-abbrev pub targetsOf : ℕ → ℕ → Targets
-targetsOf n b = record { lowest = b + 1; blocks = n }
+abbrev pub targetAt : ℕ → List ℕ → ℕ → Got ℕ
+targetAt n s at = belowAt n 7 s at
 
 -- ---- the tags
 
@@ -160,18 +152,18 @@ setAt v s at = then (variableAt v s at) (λ x n. one (Set x) (exprAt depth v s) 
 abbrev pub emitAt : ℕ → List ℕ → ℕ → Got Stmt
 emitAt v s at = one Emit (exprAt depth v s) at
 
--- what follows the tag of an ending that may name these targets: E reads an ending inside it
-abbrev pub endBody : EndTag → Targets → ℕ → List ℕ → (ℕ → Got End) → ℕ → Got End
-endBody gotoTag ts v s E at = one Goto (targetAt (mayGoto ts) s) (at + 1)
-endBody jumpTag ts v s E at = one Jump (targetAt (mayJump ts) s) (at + 1)
-endBody stopTag ts v s E at = got Stop (at + 1)
-endBody ifTag ts v s E at = then (condAt depth v s (at + 1)) (λ c m. two (If c) E m)
-endBody badEnd ts v s E at = refused 5 at
+-- what follows the tag of an ending, which may name any of n blocks: E reads an ending inside it
+abbrev pub endBody : EndTag → ℕ → ℕ → List ℕ → (ℕ → Got End) → ℕ → Got End
+endBody gotoTag n v s E at = one Goto (targetAt n s) (at + 1)
+endBody jumpTag n v s E at = one Jump (targetAt n s) (at + 1)
+endBody stopTag n v s E at = got Stop (at + 1)
+endBody ifTag n v s E at = then (condAt depth v s (at + 1)) (λ c m. two (If c) E m)
+endBody badEnd n v s E at = refused 5 at
 
 -- the ending at a place, where so many levels may still stand
-unfoldable pub endAt : ℕ → Targets → ℕ → List ℕ → ℕ → Got End
-endAt zero ts v s at = then (byteAt s at) (λ t _. refused 8 at)
-endAt (suc d) ts v s at = then (byteAt s at) (λ t _. endBody (endTag t) ts v s (λ m. endAt d ts v s m) at)
+unfoldable pub endAt : ℕ → ℕ → ℕ → List ℕ → ℕ → Got End
+endAt zero n v s at = then (byteAt s at) (λ t _. refused 8 at)
+endAt (suc d) n v s at = then (byteAt s at) (λ t _. endBody (endTag t) n v s (λ m. endAt d n v s m) at)
 
 -- endings go to depth 4
 abbrev pub levels : ℕ
@@ -182,25 +174,25 @@ abbrev pub withFirst : Stmt → Block → Block
 withFirst x b = record { body = x ∷ b .body; ending = b .ending }
 
 -- a block goes on while the tag is a statement's; what else stands there has to be its ending
-abbrev pub blockBody : StmtTag → Targets → ℕ → List ℕ → (ℕ → Got Block) → ℕ → Got Block
-blockBody setTag ts v s B at = then (setAt v s (at + 1)) (λ x m. one (withFirst x) B m)
-blockBody emitTag ts v s B at = then (emitAt v s (at + 1)) (λ x m. one (withFirst x) B m)
-blockBody noStmt ts v s B at = one (λ e. record { body = []; ending = e }) (endAt levels ts v s) at
+abbrev pub blockBody : StmtTag → ℕ → ℕ → List ℕ → (ℕ → Got Block) → ℕ → Got Block
+blockBody setTag n v s B at = then (setAt v s (at + 1)) (λ x m. one (withFirst x) B m)
+blockBody emitTag n v s B at = then (emitAt v s (at + 1)) (λ x m. one (withFirst x) B m)
+blockBody noStmt n v s B at = one (λ e. record { body = []; ending = e }) (endAt levels n v s) at
 
 -- the block at a place. The first number bounds how many statements are read: each takes a byte, so the rule's length is enough
-unfoldable pub blockFrom : ℕ → Targets → ℕ → List ℕ → ℕ → Got Block
-blockFrom zero ts v s at = refused 9 (length s)
-blockFrom (suc f) ts v s at = blockBody (stmtTag (getD s at 0)) ts v s (λ m. blockFrom f ts v s m) at
+unfoldable pub blockFrom : ℕ → ℕ → ℕ → List ℕ → ℕ → Got Block
+blockFrom zero n v s at = refused 9 (length s)
+blockFrom (suc f) n v s at = blockBody (stmtTag (getD s at 0)) n v s (λ m. blockFrom f n v s m) at
 
-abbrev pub blockAt : Targets → ℕ → List ℕ → ℕ → Got Block
-blockAt ts v s at = blockFrom (length s) ts v s at
+abbrev pub blockAt : ℕ → ℕ → List ℕ → ℕ → Got Block
+blockAt n v s at = blockFrom (length s) n v s at
 
 -- ---- a rule
 
 -- the first k of n blocks, right after the header
 unfoldable pub blocksTo : ℕ → ℕ → List ℕ → ℕ → Got (List Block)
 blocksTo n v s zero = got [] 4
-blocksTo n v s (suc k) = then (blocksTo n v s k) (λ bs at. one (λ b. bs ++ (b ∷ [])) (blockAt (targetsOf n k) v s) at)
+blocksTo n v s (suc k) = then (blocksTo n v s k) (λ bs at. one (λ b. bs ++ (b ∷ [])) (blockAt n v s) at)
 
 -- the most variables and the most blocks that a rule has
 abbrev pub mostVariables : ℕ
@@ -239,8 +231,16 @@ headed s rest =
 abbrev pub wholeRule : List ℕ → List Block → ℕ → Got Rule
 wholeRule s bs n = cond (ltb n (length s)) (refused 10 n) (got (record { form = formIn s; variables = variablesIn s; arguments = argumentsIn s; blocks = bs }) n)
 
+-- the bytes read to their end, as a tree
+unfoldable pub parsed : List ℕ → Got Rule
+parsed s = headed s (then (blocksTo (blocksIn s) (variablesIn s) s (blocksIn s)) (wholeRule s))
+
+-- 02, K5: 16 where the gotos form a cycle, at the lowest block on one
+abbrev pub uncycled : Rule → ℕ → Got Rule
+uncycled r n = cond (ltb (cycleOf (size r) (gotoIn r)) (size r)) (refused 16 (cycleOf (size r) (gotoIn r))) (got r n)
+
 unfoldable pub ruleOf : List ℕ → Got Rule
-ruleOf s = headed s (then (blocksTo (blocksIn s) (variablesIn s) s (blocksIn s)) (wholeRule s))
+ruleOf s = then (parsed s) uncycled
 
 -- the longest rule
 abbrev pub longest : ℕ

@@ -7,6 +7,10 @@ pub mod Meaning
 pub mod Direct
 pub mod Faulting
 pub mod Columns
+pub mod Paths
+pub mod Order
+pub mod Cycles
+pub mod OrderExamples
 pub mod Smallest
 pub mod Plan
 pub mod Pages

@@ -1,13 +1,12 @@
 -- 01, The rule, byte by byte, from the tree's side: the limits that a rule's tree keeps to. How long its bytes may be is asked by the calls.
 use Prim.Native.Nat.{ℕ, _+_, _≤_, _<_, max}
 use mathlib.Core.Path.{_≡_}
-use mathlib.Core.Bool.{true}
 use mathlib.Core.List.{List, [], _∷_}
 use lib.IntN.{ℤ}
 use Rattle.definitions.specs.Values.{value, settled}
-use Rattle.definitions.specs.Rule.{Expr, Cond, Const, Var, Neg, Op, Case, Compare, Not, Join, Stmt, Set, Emit, End, Goto, Jump, Stop, If, Block, Rule, size, blockOf}
+use Rattle.definitions.specs.Rule.{Expr, Cond, Const, Var, Neg, Op, Case, Compare, Not, Join, Stmt, Set, Emit, End, Goto, Jump, Stop, If, Block, Rule, size}
 use Rattle.definitions.specs.Grammar.{depth, levels, mostVariables, mostBlocks}
-use Rattle.definitions.specs.Columns.{goesTo}
+use Rattle.definitions.specs.Paths.{gotoIn, NoCycle}
 
 -- ---- depth: how many tags stand inside one another, at most
 
@@ -83,5 +82,4 @@ pub record Limits (r : Rule) : Type 0 where
   pub blocks-from : 1 ≤ size r
   pub blocks-to : size r ≤ mostBlocks
   pub blocks-keep : Every (BlockKeeps (size r) (r .variables)) (r .blocks)
-  -- the only limit that asks in which block something stands
-  pub gotos-rise : (b t : ℕ) → b < size r → goesTo (blockOf r b .ending) t ≡ true → b < t
+  pub no-cycle : NoCycle (size r) (gotoIn r)

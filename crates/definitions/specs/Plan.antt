@@ -1,4 +1,4 @@
--- 01, Columns, the plan: its bytes, and which bytes are a plan.
+-- 01, Columns, the plan, and K5 of 02: its bytes, and which bytes are a plan.
 use Prim.Native.Nat.{ℕ, zero, suc, _+_, _-_, _*_, _/_, _%_, _^_}
 use mathlib.Core.Bool.{Bool, true, false, cond, _&&_}
 use mathlib.Core.List.{List, [], _∷_, _++_}
@@ -7,6 +7,8 @@ use lib.ListN.{length, take, drop, getD}
 use Rattle.definitions.specs.Rule.{Rule, Block, size}
 use Rattle.definitions.specs.Grammar.{Got, got, refused, blocksTo, ruleOf, longest, mostBlocks}
 use Rattle.definitions.specs.Columns.{Flow, flowOf, J, inputsOf, outputsOf, LC}
+use Rattle.definitions.specs.Paths.{gotoIn}
+use Rattle.definitions.specs.Order.{orderOf, goesBack}
 
 -- sixteen bits as two bytes, the lower first
 abbrev pub le16 : ℕ → List ℕ
@@ -34,14 +36,21 @@ endOf (refused k p) = p
 abbrev pub placeOf : Rule → List ℕ → ℕ → ℕ
 placeOf r s b = endOf (blocksTo (size r) (r .variables) s b)
 
--- the bytes of a plan before the blocks' bodies
-abbrev pub headSize : ℕ → ℕ
-headSize n = 6 + 8 * n
+-- 02, K5: where some goto goes back, the blocks in order of evaluation, a byte each; no bytes elsewhere
+unfoldable pub orderBytes : Rule → List ℕ
+orderBytes r = cond (goesBack (size r) (gotoIn r)) (orderOf (size r) (gotoIn r)) []
+
+-- the bytes of a plan before the blocks' bodies: the header, LC and n entries, and so many bytes of the order
+abbrev pub headSize : ℕ → ℕ → ℕ
+headSize n ordered = 6 + 8 * n + ordered
+
+abbrev pub bodiesFrom : Rule → ℕ
+bodiesFrom r = headSize (size r) (length (orderBytes r))
 
 -- a block's entry, by the rule's flow: the offset of its body in the plan, its input and its output mask, 1 if it is in J and else 0
 unfoldable pub entryOf : Flow → Rule → List ℕ → ℕ → List ℕ
 entryOf g r s b =
-    le16 (placeOf r s b - 4 + headSize (size r))
+    le16 (placeOf r s b - 4 + bodiesFrom r)
     ++ (le16 (maskOf (r .variables) (inputsOf g b))
     ++ (le16 (maskOf (r .variables) (outputsOf g b))
     ++ le16 (cond (J g b) 1 0)))
@@ -50,20 +59,20 @@ unfoldable pub entriesTo : Flow → Rule → List ℕ → ℕ → List ℕ
 entriesTo g r s zero = []
 entriesTo g r s (suc k) = entriesTo g r s k ++ entryOf g r s k
 
--- the plan of a rule whose bytes are s, by its flow: the header, LC, the entries, the rule without its header
+-- the plan of a rule whose bytes are s, by its flow: the header, LC, the entries, the order, the rule without its header
 unfoldable pub planBy : Flow → Rule → List ℕ → List ℕ
-planBy g r s = take 4 s ++ (le16 (maskOf (r .variables) (LC g)) ++ (entriesTo g r s (size r) ++ drop 4 s))
+planBy g r s = take 4 s ++ (le16 (maskOf (r .variables) (LC g)) ++ (entriesTo g r s (size r) ++ (orderBytes r ++ drop 4 s)))
 
 abbrev pub planOf : Rule → List ℕ → List ℕ
 planOf r s = planBy (flowOf r) r s
 
--- its size, for a rule of L bytes and n blocks
-abbrev pub planSize : ℕ → ℕ → ℕ
-planSize n L = headSize n + L - 4
+-- its size, for a rule of L bytes
+abbrev pub planSize : Rule → ℕ → ℕ
+planSize r L = bodiesFrom r + L - 4
 
 -- and the longest plan's
 abbrev pub longestPlan : ℕ
-longestPlan = planSize mostBlocks longest
+longestPlan = headSize mostBlocks mostBlocks + longest - 4
 
 -- ---- which bytes are a plan
 

@@ -8,7 +8,7 @@ ghost use Rattle.definitions.specs.Calls.{refusal};
 // The most bytes that a rule has, and a plan.
 pub const LONGEST: usize = 4064;
 
-pub const LONGEST_PLAN: usize = 4578;
+pub const LONGEST_PLAN: usize = 4642;
 
 // The most blocks and the most variables of a rule.
 pub const BLOCKS: usize = 64;
@@ -55,12 +55,6 @@ pub struct Finish {
 pub struct Refusal {
     pub number: u8,
     pub place: usize,
-}
-
-// The blocks that an ending may name, of so many: a goto those from the lowest on, a jump any.
-pub struct Targets {
-    pub lowest: u8,
-    pub blocks: u8,
 }
 
 // What reading at a place of a rule finds: the place after it, or a refusal.

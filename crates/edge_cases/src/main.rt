@@ -17,7 +17,7 @@ fn files() {
     case(b"filler.pages", b"three.batch");
 }
 
-// Rules that are refused, with 4 to 10, whatever the input is.
+// Rules that are refused, with 4 to 10 or 16, whatever the input is.
 fn rules() {
     case(b"header.pages", b"three.batch");
     case(b"tag.pages", b"three.batch");
@@ -26,6 +26,7 @@ fn rules() {
     case(b"deep.pages", b"three.batch");
     case(b"early.pages", b"eleven.batch");
     case(b"after.pages", b"absent.batch");
+    case(b"cycle.pages", b"three.batch");
 }
 
 // Inputs that hold no batch, and the shortest and the longest that do.
@@ -49,6 +50,7 @@ fn batches() {
     case(b"sum.pages", b"no_budget.batch");
     case(b"sum.pages", b"no_quota.batch");
     case(b"divides.pages", b"faults.batch");
+    case(b"goes_back.pages", b"three.batch");
 }
 
 // Rules that fault: where, in an expression, a condition, a statement and a block.

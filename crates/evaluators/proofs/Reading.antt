@@ -8,7 +8,7 @@ use mathlib.Core.List.{List}
 use lib.Dec.{ltb, leb}
 use lib.IntN.{ℤ}
 use lib.ListN.{length, getD}
-use Rattle.definitions.specs.Grammar.{Got, got, refused, then, byteAt, one, two, constantIn, constantAt, variableAt, targetAt}
+use Rattle.definitions.specs.Grammar.{Got, got, refused, then, byteAt, one, two, constantIn, constantAt, belowAt, variableAt, targetAt}
 
 -- a refusal finds nothing
 pub no-got : {A : Type 0} (k p : ℕ) (a : A) (n : ℕ) → refused k p ≡ got a n → ⊥
@@ -51,14 +51,14 @@ module _ (s : List ℕ) (at : ℕ) where
   pub constant-got : (z : ℤ) (n : ℕ) → constantAt s at ≡ got z n → (at + 4 ≤ length s) × (z ≡ constantIn s at) × (n ≡ at + 4)
   constant-got z n e = let w = if-got (leb (at + 4) (length s)) (constantIn s at) (at + 4) 9 (length s) z n e in (leb-true (at + 4) (length s) (w .0), w .1, w .2)
 
-  pub variable-got : (v k n : ℕ) → variableAt v s at ≡ got k n → (at < length s) × (getD s at 0 < v) × (k ≡ getD s at 0) × (n ≡ at + 1)
-  variable-got v k n e =
-      let b = byte-got s at (λ k n. cond (ltb k v) (got k n) (refused 6 at)) k n e in
-      let w = if-got (ltb (getD s at 0) v) (getD s at 0) (at + 1) 6 at k n (b .1) in
-      (b .0, ltb-true (getD s at 0) v (w .0), w .1, w .2)
+  below-got : (high number k n : ℕ) → belowAt high number s at ≡ got k n → (at < length s) × (getD s at 0 < high) × (k ≡ getD s at 0) × (n ≡ at + 1)
+  below-got high number k n e =
+      let b = byte-got s at (λ k n. cond (ltb k high) (got k n) (refused number at)) k n e in
+      let w = if-got (ltb (getD s at 0) high) (getD s at 0) (at + 1) number at k n (b .1) in
+      (b .0, ltb-true (getD s at 0) high (w .0), w .1, w .2)
 
-  pub target-got : (allowed : ℕ → Bool) (k n : ℕ) → targetAt allowed s at ≡ got k n → (at < length s) × (k ≡ getD s at 0) × (n ≡ at + 1) × (allowed (getD s at 0) ≡ true)
-  target-got allowed k n e =
-      let b = byte-got s at (λ t n. cond (allowed t) (got t n) (refused 7 at)) k n e in
-      let w = if-got (allowed (getD s at 0)) (getD s at 0) (at + 1) 7 at k n (b .1) in
-      (b .0, w .1, w .2, w .0)
+  pub variable-got : (v k n : ℕ) → variableAt v s at ≡ got k n → (at < length s) × (getD s at 0 < v) × (k ≡ getD s at 0) × (n ≡ at + 1)
+  variable-got v = below-got v 6
+
+  pub target-got : (blocks k n : ℕ) → targetAt blocks s at ≡ got k n → (at < length s) × (getD s at 0 < blocks) × (k ≡ getD s at 0) × (n ≡ at + 1)
+  target-got blocks = below-got blocks 7

@@ -6,8 +6,7 @@ use mathlib.Core.List.{List, [], _++_}
 use lib.ListN.{length, getD, length-append}
 use Rattle.definitions.specs.Rule.{Operator, Relation, Joint, Expr, Cond, End, Const, Var, Neg, Op, Case, Compare, Not, Join, Goto, Jump, Stop, If, Stmt, Set, Emit, Block}
 use Rattle.definitions.specs.Spelling.{exprBytes, condBytes, stmtBytes, endBytes, inTurn, exprSize, condSize, stmtSize, endSize, bodySize}
-use Rattle.definitions.specs.declared.Targets.{Targets}
-use Rattle.definitions.specs.Grammar.{Got, got, refused, then, one, two, constantAt, variableAt, targetAt, mayGoto, mayJump, exprAt, condAt, endAt, exprBody, condBody, endBody, depth, levels, setAt, emitAt, withFirst, blockBody, blockFrom, StmtTag, setTag, emitTag, noStmt, stmtTag}
+use Rattle.definitions.specs.Grammar.{Got, got, refused, then, one, two, constantAt, variableAt, targetAt, exprAt, condAt, endAt, exprBody, condBody, endBody, depth, levels, setAt, emitAt, withFirst, blockBody, blockFrom, StmtTag, setTag, emitTag, noStmt, stmtTag}
 use Rattle.definitions.specs.Grammar.{ExprTag, constTag, varTag, negTag, caseTag, badExpr, opTag, exprTag}
 use Rattle.definitions.specs.Grammar.{CondTag, notTag, badCond, compareTag, joinTag, condTag, EndTag, gotoTag, jumpTag, stopTag, ifTag, badEnd, endTag}
 use Rattle.evaluators.proofs.Reading.{no-got, then-got, one-got, two-got, byte-got, constant-got, variable-got, target-got}
@@ -103,18 +102,18 @@ mutual
       (byte-got s at (λ t _. condBody (condTag t) (λ n. exprAt d v s n) (λ n. condAt d v s n) at) a n e .1)
 
 -- an ending
-module _ (ts : Targets) (v : ℕ) (s : List ℕ) (E : ℕ → Got End) (hE : Takes endSize E) (at : ℕ) where
+module _ (ts : ℕ) (v : ℕ) (s : List ℕ) (E : ℕ → Got End) (hE : Takes endSize E) (at : ℕ) where
   end-body : (x : EndTag) (a : End) (m : ℕ) → endBody x ts v s E at ≡ got a m → m ≡ at + endSize a
   unfolding endBytes
-  end-body gotoTag a m e = let w = one-got Goto (targetAt (mayGoto ts) s) (at + 1) a m e in tagged at 1 m (endSize a) (target-got s (at + 1) (mayGoto ts) (w .0) m (w .1) .2) (ap endSize (w .2))
-  end-body jumpTag a m e = let w = one-got Jump (targetAt (mayJump ts) s) (at + 1) a m e in tagged at 1 m (endSize a) (target-got s (at + 1) (mayJump ts) (w .0) m (w .1) .2) (ap endSize (w .2))
+  end-body gotoTag a m e = let w = one-got Goto (targetAt ts s) (at + 1) a m e in tagged at 1 m (endSize a) (target-got s (at + 1) ts (w .0) m (w .1) .3) (ap endSize (w .2))
+  end-body jumpTag a m e = let w = one-got Jump (targetAt ts s) (at + 1) a m e in tagged at 1 m (endSize a) (target-got s (at + 1) ts (w .0) m (w .1) .3) (ap endSize (w .2))
   end-body stopTag a m e = let o : m ≡ at + 1 = cc in let z : Stop ≡ a = cc in tagged at 0 m (endSize a) (omega arith) (ap endSize (sym z))
   end-body ifTag a m e =
       let w = three-takes If condSize endSize (λ k. condAt depth v s k) E (cond-size depth v s) hE (at + 1) a m e in
       tagged at (condSize (w .0) + (endSize (w .1) + endSize (w .2))) m (endSize a) (w .4) (ap endSize (w .3) ∙ if-size (w .0) (w .1) (w .2))
   end-body badEnd a m e = absurd (no-got 5 at a m e)
 
-pub end-size : (d : ℕ) (ts : Targets) (v : ℕ) (s : List ℕ) → Takes endSize (λ at. endAt d ts v s at)
+pub end-size : (d : ℕ) (ts : ℕ) (v : ℕ) (s : List ℕ) → Takes endSize (λ at. endAt d ts v s at)
 unfolding endAt
 end-size zero ts v s at a m e = absurd (no-got 8 at a m (byte-got s at (λ t _. refused 8 at) a m e .1))
 end-size (suc d) ts v s at a m e =
@@ -152,7 +151,7 @@ module _ (v : ℕ) (s : List ℕ) (at : ℕ) (x : Stmt) (m : ℕ) where
       let p = one-got Emit (exprAt depth v s) (at + 1) x m e in
       omega (arith, expr-size depth v s (at + 1) (p .0) m (p .1), ap stmtSize (p .2), emit-is (p .0))
 
-module _ (ts : Targets) (v : ℕ) (s : List ℕ) where
+module _ (ts : ℕ) (v : ℕ) (s : List ℕ) where
   module _ (B : ℕ → Got Block) (hB : Takes blockSize B) (at : ℕ) (b : Block) (n : ℕ) where
     first : (x : Stmt) (m : ℕ) → m ≡ at + stmtSize x → one (withFirst x) B m ≡ got b n → n ≡ at + blockSize b
     first x m k e =

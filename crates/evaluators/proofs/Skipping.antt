@@ -9,8 +9,7 @@ use mathlib.Core.List.{List}
 use lib.Dec.{ltb}
 use lib.ListN.{length, getD}
 use Rattle.definitions.specs.Rule.{Expr, Cond, End, Const, Var, Neg, Op, Case, Compare, Not, Join, Goto, Jump, If}
-use Rattle.definitions.specs.declared.Targets.{Targets}
-use Rattle.definitions.specs.Grammar.{Got, got, refused, then, one, two, constantAt, variableAt, targetAt, mayGoto, mayJump, exprAt, condAt, endAt, exprBody, condBody, endBody, depth}
+use Rattle.definitions.specs.Grammar.{Got, got, refused, then, one, two, constantAt, variableAt, targetAt, exprAt, condAt, endAt, exprBody, condBody, endBody, depth}
 use Rattle.definitions.specs.Grammar.{ExprTag, constTag, varTag, negTag, caseTag, badExpr, opTag, exprTag}
 use Rattle.definitions.specs.Grammar.{CondTag, notTag, badCond, compareTag, joinTag, condTag, EndTag, gotoTag, jumpTag, stopTag, ifTag, badEnd, endTag}
 use Rattle.evaluators.specs.Skip.{Token, token, endToken, condToken, exprToken, tokenOf, pass, past}
@@ -186,15 +185,15 @@ mutual
       cond-body s v (λ n. exprAt d v s n) (λ n. condAt d v s n) (λ p at a n e. expr-past d v s p at a n e) (λ p at a n e. cond-past d v s p at a n e) p at (b .0) (condTag (getD s at 0)) refl a n (b .1)
 
 -- an ending
-module _ (ts : Targets) (v : ℕ) (s : List ℕ) (p at : ℕ) (there : at < length s) (E : ℕ → Got End) (hE : Passes s E) where
+module _ (ts : ℕ) (v : ℕ) (s : List ℕ) (p at : ℕ) (there : at < length s) (E : ℕ → Got End) (hE : Passes s E) where
   end-body : (x : EndTag) → endTag (getD s at 0) ≡ x → (a : End) (m : ℕ) → endBody x ts v s E at ≡ got a m → past (p + 1) s at ≡ past p s m
-  end-body gotoTag q a m e = let w = one-got Goto (targetAt (mayGoto ts) s) (at + 1) a m e in after-token s p at 2 0 m there (end-token _ _ q (λ z. let o : _≡_ {A = ℕ} 0 1 = cc in omega arith)) (ends s p at 1 m (target-got s (at + 1) (mayGoto ts) (w .0) m (w .1) .2))
-  end-body jumpTag q a m e = let w = one-got Jump (targetAt (mayJump ts) s) (at + 1) a m e in after-token s p at 2 0 m there (end-token _ _ q (λ z. let o : _≡_ {A = ℕ} 0 1 = cc in omega arith)) (ends s p at 1 m (target-got s (at + 1) (mayJump ts) (w .0) m (w .1) .2))
+  end-body gotoTag q a m e = let w = one-got Goto (targetAt ts s) (at + 1) a m e in after-token s p at 2 0 m there (end-token _ _ q (λ z. let o : _≡_ {A = ℕ} 0 1 = cc in omega arith)) (ends s p at 1 m (target-got s (at + 1) ts (w .0) m (w .1) .3))
+  end-body jumpTag q a m e = let w = one-got Jump (targetAt ts s) (at + 1) a m e in after-token s p at 2 0 m there (end-token _ _ q (λ z. let o : _≡_ {A = ℕ} 0 1 = cc in omega arith)) (ends s p at 1 m (target-got s (at + 1) ts (w .0) m (w .1) .3))
   end-body stopTag q a m e = after-token s p at 1 0 m there (end-token _ _ q (λ z. let o : _≡_ {A = ℕ} 0 1 = cc in omega arith)) (let o : m ≡ at + 1 = cc in ends s p at 0 m (omega arith))
   end-body ifTag q a m e = after-token s p at 1 3 m there (end-token _ _ q (λ z. let o : _≡_ {A = ℕ} 0 1 = cc in omega arith)) (three-past s If (λ k. condAt depth v s k) E (cond-past depth v s) hE p (at + 1) a m e)
   end-body badEnd q a m e = absurd (no-got 5 at a m e)
 
-pub end-past : (d : ℕ) (ts : Targets) (v : ℕ) (s : List ℕ) → Passes s (λ at. endAt d ts v s at)
+pub end-past : (d : ℕ) (ts : ℕ) (v : ℕ) (s : List ℕ) → Passes s (λ at. endAt d ts v s at)
 unfolding endAt
 end-past zero ts v s p at a m e = absurd (no-got 8 at a m (byte-got s at (λ t _. refused 8 at) a m e .1))
 end-past (suc d) ts v s p at a m e =

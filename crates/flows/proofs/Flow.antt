@@ -9,8 +9,9 @@ use borrow.Author.Tests.{ne-eqb}
 use lib.Dec.{eqb}
 use lib.ListN.{length, getD, set, replicate, getD-replicate}
 use Rattle.definitions.specs.Rule.{Block, Rule, size, blockOf}
-use Rattle.definitions.specs.Grammar.{got, targetsOf, ruleOf, blocksTo, blocksIn, variablesIn, longest, mostVariables, mostBlocks}
-use Rattle.definitions.specs.Columns.{among, goesTo, jumpsTo, ledTo}
+use Rattle.definitions.specs.Grammar.{got, parsed, blocksTo, blocksIn, variablesIn, longest, mostVariables, mostBlocks}
+use Rattle.definitions.specs.Columns.{among, jumpsTo, ledTo}
+use Rattle.definitions.specs.Paths.{gotoIn}
 use Rattle.definitions.specs.Smallest.{Smallest}
 use Rattle.definitions.specs.Plan.{placeOf, endOf}
 use Rattle.definitions.proofs.Smallest.{smallest-only, alike}
@@ -24,9 +25,9 @@ use Rattle.flows.proofs.Spans.{Spans, all}
 use Rattle.flows.proofs.Trees.{blockMarks, marks-read, marks-sets, marks-goto, marks-jump}
 use Rattle.flows.proofs.Readings.{block-spans}
 
-module _ (s : List ℕ) (r : Rule) (m : ℕ) (e : ruleOf s ≡ got r m) where
+module _ (s : List ℕ) (r : Rule) (m : ℕ) (e : parsed s ≡ got r m) where
   span : (b : ℕ) → b < size r → Spans s (placeOf r s b) (placeOf r s (suc b)) (blockMarks (blockOf r b))
-  span b h = block-spans (targetsOf (size r) b) (r .variables) s (placeOf r s b) (placeOf r s (suc b)) (blockOf r b) (block-stands s r m e b h)
+  span b h = block-spans (size r) (r .variables) s (placeOf r s b) (placeOf r s (suc b)) (blockOf r b) (block-stands s r m e b h)
 
   -- a block begins past the header, and no later than the bytes end
   pub place-past : (b : ℕ) → b ≤ size r → 4 ≤ placeOf r s b
@@ -63,17 +64,19 @@ pub entry-alone : (b : ℕ) → b < 64 → among (set (replicate 64 false) 0 tru
 entry-alone zero h = refl
 entry-alone (suc b) h = getD-replicate 63 b false false (omega arith) ∙ sym (ne-eqb (suc b) 0 (λ e. omega arith))
 
-module _ (s starts : List ℕ) (r : Rule) (m : ℕ) (e : ruleOf s ≡ got r m) (placed : Placed s starts) where
+module _ (s starts : List ℕ) (r : Rule) (m : ℕ) (e : parsed s ≡ got r m) (placed : Placed s starts) where
   places : (b : ℕ) → b ≤ size r → getD starts b 0 ≡ placeOf r s b
   places = let i = rule-in s r m e in (rw (← i .variables-are, ← i .blocks-are) at placed) (r .blocks) m (rule-blocks s r m e)
 
   part : (b : ℕ) → b < size r → partIn s starts b ≡ blockMarks (blockOf r b)
   part b h = rw (add-one b, places b (omega arith), places (suc b) h) (all s (placeOf r s b) (placeOf r s (suc b)) (blockMarks (blockOf r b)) (span s r m e b h))
 
-  module _ (gotos jumps : List Bool) (by-goto : Named s starts 0x30 gotos) (by-jump : Named s starts 0x31 jumps) where
-    goto-is : (b t : ℕ) → b < size r → t < size r → edgeIn gotos b t ≡ goesTo (blockOf r b .ending) t
+  -- the gotos of all blocks
+  module _ (gotos : List Bool) (by-goto : Named s starts 0x30 gotos) where
+    pub goto-is : (b t : ℕ) → b < size r → t < size r → edgeIn gotos b t ≡ gotoIn r b t
     goto-is b t h l = let i = rule-in s r m e in by-goto b t (omega arith) (omega arith) ∙ (ap (has 0x30 t) (part b h) ∙ marks-goto (blockOf r b .body) (blockOf r b .ending) t)
 
+  module _ (gotos jumps : List Bool) (by-goto : Named s starts 0x30 gotos) (by-jump : Named s starts 0x31 jumps) where
     jump-is : (b t : ℕ) → b < size r → t < size r → edgeIn jumps b t ≡ jumpsTo (blockOf r b .ending) t
     jump-is b t h l = let i = rule-in s r m e in by-jump b t (omega arith) (omega arith) ∙ (ap (has 0x31 t) (part b h) ∙ marks-jump (blockOf r b .body) (blockOf r b .ending) t)
 
@@ -81,7 +84,7 @@ module _ (s starts : List ℕ) (r : Rule) (m : ℕ) (e : ruleOf s ≡ got r m) (
     unfolding ledTo
     led-is led w =
         let i = rule-in s r m e in
-        smallest-only (alike (λ b h. refl) (λ t b h l. ap₂ (λ (x y : Bool). x || y) (goto-is b t l h) (jump-is b t l h)) (rw (← i .blocks-are) at w)) (closure-smallest (size r) _ _)
+        smallest-only (alike (λ b h. refl) (λ t b h l. ap₂ (λ (x y : Bool). x || y) (goto-is gotos by-goto b t l h) (jump-is b t l h)) (rw (← i .blocks-are) at w)) (closure-smallest (size r) _ _)
 
     pub told : (led fv bv gotos' jumps' : List Bool) → Led s gotos jumps led → Used s starts led fv bv → Only s led gotos gotos' → Only s led jumps jumps' → Told r s starts fv bv gotos' jumps'
     told led fv bv gotos' jumps' w used goes jumps-on =
@@ -94,7 +97,7 @@ module _ (s starts : List ℕ) (r : Rule) (m : ℕ) (e : ruleOf s ≡ got r m) (
                 used b k (omega arith) (omega arith) .0
                 ∙ ap₂ (λ (x y : Bool). x && y) (led-is led w b h) (ap (readsFirst k false) (part b h) ∙ marks-read (blockOf r b .body) (blockOf r b .ending) k);
             BV = λ b k h l. used b k (omega arith) (omega arith) .1 ∙ (ap (has 0x20 k) (part b h) ∙ marks-sets (blockOf r b .body) (blockOf r b .ending) k);
-            gotos' = λ b t h l. goes b t (omega arith) (omega arith) ∙ ap₂ (λ (x y : Bool). x && y) (led-is led w b h) (goto-is b t h l);
+            gotos' = λ b t h l. goes b t (omega arith) (omega arith) ∙ ap₂ (λ (x y : Bool). x && y) (led-is led w b h) (goto-is gotos by-goto b t h l);
             jumps' = λ b t h l. jumps-on b t (omega arith) (omega arith) ∙ ap₂ (λ (x y : Bool). x && y) (led-is led w b h) (jump-is b t h l);
           };
         }

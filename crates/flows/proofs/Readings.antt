@@ -8,8 +8,7 @@ use lib.Dec.{ltb, leb}
 use lib.ListN.{length, getD, List·getD-eq-default}
 use borrow.Author.Tests.{ltb-true, ltb-false, leb-true, ne-eqb}
 use Rattle.definitions.specs.Rule.{Expr, Cond, Const, Var, Neg, Op, Case, Compare, Not, Join, Stmt, Set, Emit, End, Goto, Jump, If, Block}
-use Rattle.definitions.specs.declared.Targets.{Targets}
-use Rattle.definitions.specs.Grammar.{Got, got, refused, then, byteAt, one, two, constantAt, constantIn, variableAt, targetAt, mayGoto, mayJump}
+use Rattle.definitions.specs.Grammar.{Got, got, refused, then, byteAt, one, two, constantAt, constantIn, variableAt, targetAt}
 use Rattle.definitions.specs.Grammar.{ExprTag, constTag, varTag, negTag, caseTag, badExpr, opTag, exprTag, CondTag, notTag, badCond, compareTag, joinTag, condTag}
 use Rattle.definitions.specs.Grammar.{StmtTag, setTag, emitTag, noStmt, stmtTag, EndTag, gotoTag, jumpTag, stopTag, ifTag, badEnd, endTag}
 use Rattle.definitions.specs.Grammar.{exprBody, condBody, exprAt, condAt, depth, setAt, emitAt, endBody, endAt, levels, withFirst, blockBody, blockFrom, blockAt}
@@ -202,11 +201,11 @@ mutual
   cond-spanned (suc d) v s at = tagged s condMarks at (λ t. condBody (condTag t) (λ n. exprAt d v s n) (λ n. condAt d v s n) at) (λ h. cond-body v s (λ n. exprAt d v s n) (λ n. condAt d v s n) (λ n. expr-spanned d v s n) (λ n. cond-spanned d v s n) at h (condTag (getD s at 0)) (cond-byte (getD s at 0)))
 
 -- ---- endings
-module _ (ts : Targets) (v : ℕ) (s : List ℕ) (E : ℕ → Got End) (hE : (m : ℕ) → Spanned s endMarks m (E m)) (at : ℕ) (here : at < length s) where
+module _ (ts : ℕ) (v : ℕ) (s : List ℕ) (E : ℕ → Got End) (hE : (m : ℕ) → Spanned s endMarks m (E m)) (at : ℕ) (here : at < length s) where
   end-body : (t : EndTag) → EndByte t (getD s at 0) → Spanned s endMarks at (endBody t ts v s E at)
   unfolding endMarks tagWidth markOf carries
-  end-body gotoTag e = next s at (markOf 0x30) endMarks (targetAt (mayGoto ts) s (at + 1)) (λ t m. got (Goto t) m) (operand s at 0x30 7 (mayGoto ts) e refl) (λ t m w. w)
-  end-body jumpTag e = next s at (markOf 0x31) endMarks (targetAt (mayJump ts) s (at + 1)) (λ t m. got (Jump t) m) (operand s at 0x31 7 (mayJump ts) e refl) (λ t m w. w)
+  end-body gotoTag e = next s at (markOf 0x30) endMarks (targetAt ts s (at + 1)) (λ t m. got (Goto t) m) (operand s at 0x30 7 (λ t. ltb t ts) e refl) (λ t m w. w)
+  end-body jumpTag e = next s at (markOf 0x31) endMarks (targetAt ts s (at + 1)) (λ t m. got (Jump t) m) (operand s at 0x31 7 (λ t. ltb t ts) e refl) (λ t m w. w)
   end-body stopTag e = tag-spans s at 0x32 1 e refl (omega arith)
   end-body ifTag e = go (tag-spans s at 0x33 1 e refl (omega arith)) (condAt depth v s (at + 1)) (cond-spanned depth v s (at + 1))
     where
@@ -215,7 +214,7 @@ module _ (ts : Targets) (v : ℕ) (s : List ℕ) (E : ℕ → Got End) (hE : (m 
       go head (refused k q) w = tt
   end-body badEnd e = tt
 
-end-spanned : (d : ℕ) (ts : Targets) (v : ℕ) (s : List ℕ) (at : ℕ) → Spanned s endMarks at (endAt d ts v s at)
+end-spanned : (d : ℕ) (ts : ℕ) (v : ℕ) (s : List ℕ) (at : ℕ) → Spanned s endMarks at (endAt d ts v s at)
 unfolding endAt
 end-spanned zero ts v s at = tagged s endMarks at (λ t. refused 8 at) (λ h. tt)
 end-spanned (suc d) ts v s at = tagged s endMarks at (λ t. endBody (endTag t) ts v s (λ m. endAt d ts v s m) at) (λ h. end-body ts v s (λ m. endAt d ts v s m) (λ m. end-spanned d ts v s m) at h (endTag (getD s at 0)) (end-byte (getD s at 0)))
@@ -234,7 +233,7 @@ module _ (v : ℕ) (s : List ℕ) (at : ℕ) where
       let here = there s at 0x20 e in
       one-more s at exprMarks stmtMarks (at + 1) ((0x21, 0) ∷ []) Emit (tag-spans s at 0x21 1 e refl (omega arith)) (λ a. refl) (exprAt depth v s (at + 1)) (expr-spanned depth v s (at + 1))
 
-module _ (ts : Targets) (v : ℕ) (s : List ℕ) (B : ℕ → Got Block) (hB : (m : ℕ) → Spanned s blockMarks m (B m)) (at : ℕ) where
+module _ (ts : ℕ) (v : ℕ) (s : List ℕ) (B : ℕ → Got Block) (hB : (m : ℕ) → Spanned s blockMarks m (B m)) (at : ℕ) where
   one-stmt : (p : Got Stmt) → Spanned s stmtMarks at p → Spanned s blockMarks at (then p (λ x m. one (withFirst x) B m))
   unfolding bodyMarks
   one-stmt p w = next s at stmtMarks blockMarks p (λ x m. one (withFirst x) B m) w (λ x m h. one-more s at blockMarks blockMarks m (stmtMarks x) (withFirst x) h (λ k. refl) (B m) (hB m))
@@ -245,10 +244,10 @@ module _ (ts : Targets) (v : ℕ) (s : List ℕ) (B : ℕ → Got Block) (hB : (
   block-body emitTag e = one-stmt (emitAt v s (at + 1)) (emit-spanned v s at e)
   block-body noStmt e = next s at endMarks blockMarks (endAt levels ts v s at) (λ e m. got (record { body = []; ending = e }) m) (end-spanned levels ts v s at) (λ e m w. w)
 
-block-spanned : (f : ℕ) (ts : Targets) (v : ℕ) (s : List ℕ) (at : ℕ) → Spanned s blockMarks at (blockFrom f ts v s at)
+block-spanned : (f : ℕ) (ts : ℕ) (v : ℕ) (s : List ℕ) (at : ℕ) → Spanned s blockMarks at (blockFrom f ts v s at)
 unfolding blockFrom
 block-spanned zero ts v s at = tt
 block-spanned (suc f) ts v s at = block-body ts v s (λ m. blockFrom f ts v s m) (λ m. block-spanned f ts v s m) at (stmtTag (getD s at 0)) (stmt-byte (getD s at 0))
 
-pub block-spans : (ts : Targets) (v : ℕ) (s : List ℕ) (at m : ℕ) (blk : Block) → blockAt ts v s at ≡ got blk m → Spans s at m (blockMarks blk)
+pub block-spans : (ts : ℕ) (v : ℕ) (s : List ℕ) (at m : ℕ) (blk : Block) → blockAt ts v s at ≡ got blk m → Spans s at m (blockMarks blk)
 block-spans ts v s at m blk e = rw e at (block-spanned (length s) ts v s at)

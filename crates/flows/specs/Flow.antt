@@ -5,16 +5,16 @@ use mathlib.Core.List.{List}
 use Prim.Native.Nat.{ℕ, _≤_}
 use lib.ListN.{length, getD}
 use Rattle.definitions.specs.Rule.{Rule, size}
-use Rattle.definitions.specs.Grammar.{got, ruleOf, longest}
+use Rattle.definitions.specs.Grammar.{got, parsed, longest}
 use Rattle.definitions.specs.Columns.{flowOf}
 use Rattle.definitions.specs.Plan.{placeOf}
 use Rattle.closure.specs.Tables.{Tables}
 
--- the bytes are a rule, and no longer than a rule may be
+-- the bytes are read to their end as a rule, whether or not its gotos form a cycle, and are no longer than a rule may be
 pub record Ruled (s : List ℕ) : Type 0 where
   pub rule : Rule
   pub end : ℕ
-  pub is : ruleOf s ≡ got rule end
+  pub is : parsed s ≡ got rule end
   pub short : length s ≤ longest
 
 -- where each block begins and the last one ends, and what each reads first, sets and names

@@ -6,16 +6,16 @@ use definitions::BLOCKS;
 use definitions::Read;
 use definitions::VARIABLES;
 use readers::blocks::read_block;
-use readers::blocks::targets_of;
 ghost use mathlib.Core.Path.{_≡_};
 ghost use mathlib.Core.Bool.{true, false, _&&_, _||_};
 ghost use Prim.Native.Nat.{ℕ, _+_, _<_, _≤_};
 ghost use lib.Dec.{eqb};
 ghost use lib.ListN.{getD};
 ghost use mathlib.Core.List.{List};
-ghost use Rattle.definitions.specs.Rule.{Block, Rule};
-ghost use Rattle.definitions.specs.Grammar.{got, mostVariables, mostBlocks, blocksTo, ruleOf, longest};
+ghost use Rattle.definitions.specs.Rule.{Block, Rule, size};
+ghost use Rattle.definitions.specs.Grammar.{got, mostVariables, mostBlocks, blocksTo, parsed, longest};
 ghost use Rattle.definitions.specs.Columns.{among};
+ghost use Rattle.definitions.specs.Paths.{gotoIn};
 ghost use Rattle.definitions.specs.Smallest.{Smallest};
 ghost use Rattle.definitions.specs.Plan.{endOf};
 ghost use Rattle.closure.specs.Tables.{edgeIn, variableIn};
@@ -156,8 +156,7 @@ fn places_of(s: &[u8], n: u8, v: u8) -> Places
     let mut b: u8 = 0;
     while b < n {
         out[b as usize] = at;
-        let targets = targets_of(n, b);
-        match read_block(s, at, v, targets) {
+        match read_block(s, at, v, n) {
             Read::Next(next) => {
                 at = next;
             }
@@ -226,6 +225,17 @@ fn only(n: usize, counts: &Blocks, edges: &Edges) -> Edges
     out
 }
 
+// The gotos of a rule, of all its blocks, whether or not anything leads to them.
+pub fn gotos_of(s: &[u8]) -> Edges
+    requires { ⌜ Ruled (now s) ⌝ }
+    ensures { λ f. ⌜ ((r : Rule) (m : ℕ) → parsed (now (s .entry)) ≡ got r m → (b t : ℕ) → b < size r → t < size r → edgeIn f b t ≡ gotoIn r b t) ⌝ }
+{
+    let n = s[3];
+    let v = s[1];
+    let places = places_of(s, n, v);
+    named(s, n as usize, &places, 0x30)
+}
+
 // Where the blocks of a rule stand, and its flow: FV and BV, gotos and jumps.
 pub struct Flows {
     pub places: Places,
@@ -237,7 +247,7 @@ pub struct Flows {
 
 pub fn flow_of(s: &[u8]) -> Flows
     requires { ⌜ Ruled (now s) ⌝ }
-    ensures { λ f. ⌜ ((r : Rule) (m : ℕ) → ruleOf (now (s .entry)) ≡ got r m → Told r (now (s .entry)) (f .places) (f .fv) (f .bv) (f .gotos) (f .jumps)) ⌝ }
+    ensures { λ f. ⌜ ((r : Rule) (m : ℕ) → parsed (now (s .entry)) ≡ got r m → Told r (now (s .entry)) (f .places) (f .fv) (f .bv) (f .gotos) (f .jumps)) ⌝ }
 {
     let n = s[3];
     let v = s[1];

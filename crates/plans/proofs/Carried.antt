@@ -6,9 +6,9 @@ use mathlib.Core.List.{List, []}
 use native.Mathlib.Omega.{arith}
 use lib.ListN.{length, take, getD}
 use Rattle.definitions.specs.Rule.{Rule, size, blockOf}
-use Rattle.definitions.specs.Grammar.{Got, got, refused, ruleOf, targetsOf, blockAt}
+use Rattle.definitions.specs.Grammar.{Got, got, refused, parsed, ruleOf, blockAt}
 use Rattle.definitions.specs.Columns.{flowOf, J, inputsOf, outputsOf, LC}
-use Rattle.definitions.specs.Plan.{maskOf, bitOf, placeOf, headSize, entryOf, wordAt, bodiesAt, carried, planned, planSize}
+use Rattle.definitions.specs.Plan.{maskOf, bitOf, placeOf, bodiesFrom, entryOf, wordAt, bodiesAt, planOf, carried, planned, planSize}
 use Rattle.definitions.specs.Batch.{countTo}
 use Rattle.definitions.specs.Calls.{columns}
 use Rattle.definitions.proofs.Masks.{mask-count}
@@ -16,6 +16,7 @@ use Rattle.columns.specs.Proper.{Proper}
 use Rattle.readers.specs.Accepted.{RuleIn}
 use Rattle.readers.proofs.Accepted.{rule-in}
 use Rattle.readers.proofs.Places.{rule-header, block-stands}
+use Rattle.rules.proofs.Uncycled.{rule-parsed}
 use Rattle.flows.proofs.Flow.{place-past}
 use Rattle.plans.specs.declared.Taken.{Taken}
 use Rattle.plans.specs.declared.Taken.the-variants as taken
@@ -50,24 +51,30 @@ module _ (p : List ℕ) (a : Accepted p) where
   pub carried-rule : ruleOf (carried p) ≡ got (ruleIn p) (a .next)
   carried-rule = whole .rule
 
+  pub carried-parsed : parsed (carried p) ≡ got (ruleIn p) (a .next)
+  carried-parsed = rule-parsed (carried p) (ruleIn p) (a .next) carried-rule
+
   pub carried-in : RuleIn (carried p) (ruleIn p)
-  carried-in = rule-in (carried p) (ruleIn p) (a .next) carried-rule
+  carried-in = rule-in (carried p) (ruleIn p) (a .next) carried-parsed
 
   pub carried-proper : Proper (ruleIn p)
   carried-proper = proper (carried p) (ruleIn p) (a .next) carried-rule
 
-  long : 4 ≤ length (carried p)
-  long = rule-header (carried p) (ruleIn p) (a .next) carried-rule
+  pub carried-bytes : planOf (ruleIn p) (carried p) ≡ p
+  carried-bytes = whole .bytes
 
-  pub plan-long : length p ≡ planSize (size (ruleIn p)) (length (carried p))
-  plan-long = sym (ap length (whole .bytes)) ∙ plan-length (flowOf (ruleIn p)) (ruleIn p) (carried p) long
+  pub carried-long : 4 ≤ length (carried p)
+  carried-long = rule-header (carried p) (ruleIn p) (a .next) carried-parsed
 
-  pub head-fits : headSize (size (ruleIn p)) ≤ length p
-  head-fits = omega (arith, plan-long, long)
+  pub plan-long : length p ≡ planSize (ruleIn p) (length (carried p))
+  plan-long = sym (ap length (whole .bytes)) ∙ plan-length (flowOf (ruleIn p)) (ruleIn p) (carried p) carried-long
+
+  pub head-fits : bodiesFrom (ruleIn p) ≤ length p
+  head-fits = omega (arith, plan-long, carried-long)
 
   -- the header
   byte : (i : ℕ) → i < 4 → getD p i 0 ≡ getD (carried p) i 0
-  byte i h = sym (ap (λ x. getD x i 0) (whole .bytes)) ∙ plan-byte (flowOf (ruleIn p)) (ruleIn p) (carried p) long i h
+  byte i h = sym (ap (λ x. getD x i 0) (whole .bytes)) ∙ plan-byte (flowOf (ruleIn p)) (ruleIn p) (carried p) carried-long i h
 
   pub at-variables : getD p 1 0 ≡ ruleIn p .variables
   at-variables = byte 1 (omega arith) ∙ sym (carried-in .variables-are)
@@ -79,23 +86,23 @@ module _ (p : List ℕ) (a : Accepted p) where
   at-blocks = byte 3 (omega arith) ∙ sym (carried-in .blocks-are)
 
   pub at-lc : wordAt p 4 ≡ maskOf (ruleIn p .variables) (LC (flowOf (ruleIn p)))
-  at-lc = sym (ap (λ x. wordAt x 4) (whole .bytes)) ∙ plan-lc (flowOf (ruleIn p)) (ruleIn p) (carried p) long
+  at-lc = sym (ap (λ x. wordAt x 4) (whole .bytes)) ∙ plan-lc (flowOf (ruleIn p)) (ruleIn p) (carried p) carried-long
 
   -- the columns of a line are the ones in LC
   pub columns-counted : (lc n : ℕ) → lc ≡ wordAt p 4 → n ≡ countTo (getD p 1 0) (bitOf lc) → n ≡ columns (ruleIn p)
   columns-counted lc n el en = en ∙ rw (at-variables, el, at-lc) (mask-count (ruleIn p .variables) (LC (flowOf (ruleIn p))) (ruleIn p .variables) (omega arith))
 
-  -- the bodies follow the entries
-  pub at-bodies : bodiesAt p ≡ headSize (size (ruleIn p))
-  at-bodies = sym (ap bodiesAt (whole .bytes)) ∙ plan-bodies (flowOf (ruleIn p)) (ruleIn p) (carried p) long (carried-in .blocks-from)
+  -- the bodies follow the entries and the order
+  pub at-bodies : bodiesAt p ≡ bodiesFrom (ruleIn p)
+  at-bodies = sym (ap bodiesAt (whole .bytes)) ∙ plan-bodies (flowOf (ruleIn p)) (ruleIn p) (carried p) carried-long (carried-in .blocks-from)
 
   -- an entry
   module _ (b : ℕ) (h : b < size (ruleIn p)) where
     word : (i : ℕ) → i + 1 < 8 → wordAt p (6 + (8 * b + i)) ≡ wordAt (entryOf (flowOf (ruleIn p)) (ruleIn p) (carried p) b) i
-    word i l = sym (ap (λ x. wordAt x (6 + (8 * b + i))) (whole .bytes)) ∙ plan-entry (flowOf (ruleIn p)) (ruleIn p) (carried p) long b i h l
+    word i l = sym (ap (λ x. wordAt x (6 + (8 * b + i))) (whole .bytes)) ∙ plan-entry (flowOf (ruleIn p)) (ruleIn p) (carried p) carried-long b i h l
 
     pub at-past : 4 ≤ placeOf (ruleIn p) (carried p) b
-    at-past = place-past (carried p) (ruleIn p) (a .next) carried-rule b (omega arith)
+    at-past = place-past (carried p) (ruleIn p) (a .next) carried-parsed b (omega arith)
 
     pub at-offset : wordAt p (6 + (8 * b + 0)) ≡ placeOf (ruleIn p) (carried p) b - 4 + bodiesAt p
     unfolding entryOf
@@ -114,5 +121,5 @@ module _ (p : List ℕ) (a : Accepted p) where
     at-joins = word 6 (omega arith) ∙ word-le16 _ []
 
     -- the block that stands at the place that the offset tells
-    pub at-place : blockAt (targetsOf (size (ruleIn p)) b) (ruleIn p .variables) (carried p) (placeOf (ruleIn p) (carried p) b) ≡ got (blockOf (ruleIn p) b) (placeOf (ruleIn p) (carried p) (suc b))
-    at-place = block-stands (carried p) (ruleIn p) (a .next) carried-rule b h
+    pub at-place : blockAt (size (ruleIn p)) (ruleIn p .variables) (carried p) (placeOf (ruleIn p) (carried p) b) ≡ got (blockOf (ruleIn p) b) (placeOf (ruleIn p) (carried p) (suc b))
+    at-place = block-stands (carried p) (ruleIn p) (a .next) carried-parsed b h

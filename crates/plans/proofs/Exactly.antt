@@ -10,7 +10,7 @@ use lib.Seq.{drop-drop, drop-append-add, length-take-le}
 use lib.Pow.{pow-mono}
 use Rattle.definitions.specs.Rule.{Rule, size}
 use Rattle.definitions.specs.Columns.{flowOf, names, outputs, inputsOf, Inputs}
-use Rattle.definitions.specs.Plan.{maskOf, placeOf, headSize, bodiesAt, carried}
+use Rattle.definitions.specs.Plan.{maskOf, placeOf, bodiesFrom, bodiesAt, carried}
 use Rattle.definitions.proofs.Tests.{some-same}
 use Rattle.definitions.proofs.Columns.{computed, only, entry-in-J}
 use Rattle.definitions.proofs.Masks.{mask-lt, read-back}
@@ -45,7 +45,7 @@ module _ (p : List ℕ) (a : Accepted p) (inputs : ℕ → ℕ → Bool) (smalle
   unfolding outputs
   same-outputs b k l = some-same (size r) _ _ (λ t h. ap (λ (x : Bool). names (flowOf r) b t && x) (same t k h l))
 
-  offset : (b : ℕ) → b < size r → offsetIn p b ≡ placeOf r (carried p) b - 4 + headSize (size r)
+  offset : (b : ℕ) → b < size r → offsetIn p b ≡ placeOf r (carried p) b - 4 + bodiesFrom r
   offset b h = at-offset p a b h ∙ omega (arith, at-bodies p a)
 
   pub carries : Carries p r inputs

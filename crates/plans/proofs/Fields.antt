@@ -6,11 +6,11 @@ use mathlib.Core.Logic.{⊎-elim}
 use native.Mathlib.Omega.{arith}
 use native.Mathlib.Nat.{le-of-suc-le-suc, eq-or-lt-of-le, zero-add}
 use lib.ListN.{length, take, drop, getD, length-append, length-drop, take-append-drop, List·getD-append}
-use lib.Seq.{take-at, drop-at, getD-append-add, getD-take, drop-append-le, length-take-le}
+use lib.Seq.{take-at, drop-at, drop-drop, getD-append-add, getD-take, drop-append-le, length-take-le}
 use Rattle.definitions.specs.Rule.{Rule, size}
 use Rattle.definitions.specs.Grammar.{blocksTo}
 use Rattle.definitions.specs.Columns.{Flow, LC}
-use Rattle.definitions.specs.Plan.{le16, maskOf, headSize, entryOf, entriesTo, planBy, planSize, wordAt, bodiesAt, carried}
+use Rattle.definitions.specs.Plan.{le16, maskOf, orderBytes, bodiesFrom, entryOf, entriesTo, planBy, planSize, wordAt, bodiesAt, carried}
 
 -- a number's two bytes are the number
 pub word-le16 : (n : ℕ) (xs : List ℕ) → wordAt (le16 n ++ xs) 0 ≡ n
@@ -76,7 +76,7 @@ module _ (g : Flow) (r : Rule) (s : List ℕ) where
         drop-append-le (8 * b) (entriesTo g r s k) (entryOf g r s k) (omega (arith, entries-length k)) ∙ rw (ih .1) (append-assoc (entryOf g r s b) (ih .0) (entryOf g r s k)),
       )
 
-  pub plan-length : 4 ≤ length s → length (planBy g r s) ≡ planSize (size r) (length s)
+  pub plan-length : 4 ≤ length s → length (planBy g r s) ≡ planSize r (length s)
   unfolding planBy
   plan-length h = simp (length-append, length-take-le 4 s h, length-drop, entries-length) (omega arith)
 
@@ -85,30 +85,38 @@ module _ (g : Flow) (r : Rule) (s : List ℕ) where
   unfolding planBy
   plan-entry h b i l j =
       let f = from-entry b (size r) l in
-      past-six (take 4 s) (entriesTo g r s (size r)) (drop 4 s) (maskOf (r .variables) (LC g)) (length-take-le 4 s h) (8 * b + i)
-      ∙ word-in (entriesTo g r s (size r)) (entryOf g r s b) (f .0) (drop 4 s) (8 * b) i (f .1) (omega (arith, entries-length (size r))) (omega (arith, entry-length b))
+      past-six (take 4 s) (entriesTo g r s (size r)) (orderBytes r ++ drop 4 s) (maskOf (r .variables) (LC g)) (length-take-le 4 s h) (8 * b + i)
+      ∙ word-in (entriesTo g r s (size r)) (entryOf g r s b) (f .0) (orderBytes r ++ drop 4 s) (8 * b) i (f .1) (omega (arith, entries-length (size r))) (omega (arith, entry-length b))
 
   pub plan-lc : 4 ≤ length s → wordAt (planBy g r s) 4 ≡ maskOf (r .variables) (LC g)
   unfolding planBy
-  plan-lc h = parts-lc (take 4 s) (entriesTo g r s (size r)) (drop 4 s) (maskOf (r .variables) (LC g)) (length-take-le 4 s h)
+  plan-lc h = parts-lc (take 4 s) (entriesTo g r s (size r)) (orderBytes r ++ drop 4 s) (maskOf (r .variables) (LC g)) (length-take-le 4 s h)
 
-  -- a plan's header is the rule's, and what follows its entries is what follows the rule's header
+  -- a plan's header is the rule's, its entries are followed by the order, and that by what follows the rule's header
   plan-head : 4 ≤ length s → take 4 (planBy g r s) ≡ take 4 s
   unfolding planBy
-  plan-head h = take-at (take 4 s) (le16 (maskOf (r .variables) (LC g)) ++ (entriesTo g r s (size r) ++ drop 4 s)) 4 (length-take-le 4 s h)
+  plan-head h = take-at (take 4 s) (le16 (maskOf (r .variables) (LC g)) ++ (entriesTo g r s (size r) ++ (orderBytes r ++ drop 4 s))) 4 (length-take-le 4 s h)
 
-  plan-body : 4 ≤ length s → drop (headSize (size r)) (planBy g r s) ≡ drop 4 s
+  plan-rest : 4 ≤ length s → drop (6 + 8 * size r) (planBy g r s) ≡ orderBytes r ++ drop 4 s
   unfolding planBy
-  plan-body h = parts-body (take 4 s) (entriesTo g r s (size r)) (drop 4 s) (maskOf (r .variables) (LC g)) (length-take-le 4 s h) (8 * size r) (entries-length (size r))
+  plan-rest h = parts-body (take 4 s) (entriesTo g r s (size r)) (orderBytes r ++ drop 4 s) (maskOf (r .variables) (LC g)) (length-take-le 4 s h) (8 * size r) (entries-length (size r))
+
+  pub plan-order : 4 ≤ length s → take (length (orderBytes r)) (drop (6 + 8 * size r) (planBy g r s)) ≡ orderBytes r
+  plan-order h = ap (take (length (orderBytes r))) (plan-rest h) ∙ take-at (orderBytes r) (drop 4 s) (length (orderBytes r)) refl
+
+  plan-body : 4 ≤ length s → drop (bodiesFrom r) (planBy g r s) ≡ drop 4 s
+  plan-body h =
+      sym (drop-drop (length (orderBytes r)) (6 + 8 * size r) (planBy g r s))
+      ∙ ap (drop (length (orderBytes r))) (plan-rest h) ∙ drop-at (orderBytes r) (drop 4 s) (length (orderBytes r)) refl
 
   -- a byte of the header
   pub plan-byte : 4 ≤ length s → (i : ℕ) → i < 4 → getD (planBy g r s) i 0 ≡ getD s i 0
   plan-byte h i l = sym (getD-take 4 (planBy g r s) i 0 l) ∙ ap (λ (xs : List ℕ). getD xs i 0) (plan-head h) ∙ getD-take 4 s i 0 l
 
-  -- block 0 begins right after the header, so its offset is past the entries
-  pub plan-bodies : 4 ≤ length s → 1 ≤ size r → bodiesAt (planBy g r s) ≡ headSize (size r)
+  -- block 0 begins right after the header, so its offset is past the entries and the order
+  pub plan-bodies : 4 ≤ length s → 1 ≤ size r → bodiesAt (planBy g r s) ≡ bodiesFrom r
   unfolding entryOf blocksTo
-  plan-bodies h l = plan-entry h 0 0 l (omega arith) ∙ word-le16 _ [] ∙ zero-add (headSize (size r))
+  plan-bodies h l = plan-entry h 0 0 l (omega arith) ∙ word-le16 _ [] ∙ zero-add (bodiesFrom r)
 
   -- a rule's plan carries the rule
   pub plan-carries : 4 ≤ length s → 1 ≤ size r → carried (planBy g r s) ≡ s

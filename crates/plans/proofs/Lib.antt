@@ -2,6 +2,7 @@ pub mod Fields
 pub mod Accepted
 pub mod Writes
 pub mod Laying
+pub mod Alike
 pub mod Ruling
 pub mod Compiling
 pub mod Taking
@@ -11,5 +12,6 @@ pub mod Exactly
 pub mod Files
 pub mod Promises
 pub mod Older
+pub mod Ordered
 pub mod Planned
 pub mod Constants

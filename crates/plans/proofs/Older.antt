@@ -19,6 +19,7 @@ use Rattle.definitions.proofs.Agreeing.{Agree, same-inputs, same-outputs, mask-
 use Rattle.definitions.proofs.Led.{led-exactly, dead-inputs, dead-outputs, dead-joins}
 use Rattle.readers.proofs.Accepted.{rule-in}
 use Rattle.readers.proofs.Places.{rule-header}
+use Rattle.rules.proofs.Uncycled.{rule-parsed}
 use Rattle.rules.proofs.Promises.{done-bytes}
 use Rattle.plans.specs.Promised.{ruleInFile}
 use Rattle.plans.specs.Older.{olderPlan, NoneDead, NoColumns}
@@ -72,14 +73,14 @@ pub compiled-as-before : (file old : List ℕ) (n : ℕ) (new : List ℕ) → Wr
     → (s : List ℕ) (m : ℕ) → unpacked file ≡ got s m → (r : Rule) (k : ℕ) → ruleOf s ≡ got r k → NoneDead r → take n new ≡ olderPlan r s
 unfolding toCompile bytesIn
 compiled-as-before file old n new w s m f r k e none =
-    done-bytes (toCompile file) old n new w ∙ rw (f, e) (kept-bytes r s (rule-in s r k e .blocks-from) none)
+    done-bytes (toCompile file) old n new w ∙ rw (f, e) (kept-bytes r s (rule-in s r k (rule-parsed s r k e) .blocks-from) none)
 
 -- a plan that the new sets change is no plan
 pub changed-refused : (s : List ℕ) (r : Rule) (n : ℕ) → ruleOf s ≡ got r n → (planOf r s ≡ olderPlan r s → ⊥) → planned (olderPlan r s) ≡ refused 15 0
 unfolding planned
 changed-refused s r n e differs =
     let p = olderPlan r s in
-    let c : carried p ≡ s = plan-carries (flowOver (λ _. true) r) r s (rule-header s r n e) (rule-in s r n e .blocks-from) in
+    let c : carried p ≡ s = plan-carries (flowOver (λ _. true) r) r s (rule-header s r n (rule-parsed s r n e)) (rule-in s r n (rule-parsed s r n e) .blocks-from) in
     let no-match : (leb n longest && same (planOf r (carried p)) p) ≡ true → ⊥ = λ h. differs (ap (planOf r) (sym c) ∙ same-is (planOf r (carried p)) p (and-parts (leb n longest) (same (planOf r (carried p)) p) h .1)) in
     ap (asPlan p) (ap ruleOf c ∙ e) ∙ ap (λ (x : Bool). cond x (got r n) (refused 15 0)) (not-so (leb n longest && same (planOf r (carried p)) p) no-match)
 

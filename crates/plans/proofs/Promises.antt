@@ -21,6 +21,7 @@ use Rattle.rules.specs.Spelling.{Accepts}
 use Rattle.rules.proofs.Spelling.{file-accepts}
 use Rattle.readers.proofs.Accepted.{rule-in}
 use Rattle.readers.proofs.Places.{through, rule-end, rule-header}
+use Rattle.rules.proofs.Uncycled.{rule-parsed}
 use Rattle.rules.proofs.Promises.{file-exactly, done-what, done-bytes, written-holds}
 use Rattle.plans.specs.Accepted.{treeOf, ruleIn, Accepted}
 use Rattle.plans.specs.Promised.{ruleInFile, Carries, PlanFor}
@@ -54,8 +55,9 @@ exactly-columns plan r n e inputs =
 -- a rule's plan is accepted, and as that rule
 pub compiled-accepted : (s : List ℕ) (r : Rule) (n : ℕ) → ruleOf s ≡ got r n → length s ≤ longest → planned (planOf r s) ≡ got r n
 compiled-accepted s r n e h =
-    let c : carried (planOf r s) ≡ s = plan-carries (flowOf r) r s (rule-header s r n e) (rule-in s r n e .blocks-from) in
-    is-plan (planOf r s) r n .1 (record { rule = ap ruleOf c ∙ e; short = omega (arith, rule-end s r n e); bytes = ap (planOf r) c })
+    let read = rule-parsed s r n e in
+    let c : carried (planOf r s) ≡ s = plan-carries (flowOf r) r s (rule-header s r n read) (rule-in s r n read .blocks-from) in
+    is-plan (planOf r s) r n .1 (record { rule = ap ruleOf c ∙ e; short = omega (arith, rule-end s r n read); bytes = ap (planOf r) c })
 
 -- what `compile` writes is a plan for the file's own rule
 pub compiled : (file old : List ℕ) (n : ℕ) (new : List ℕ) → Wrote (toCompile file) old (Done n) new → PlanFor (ruleInFile file) (take n new)

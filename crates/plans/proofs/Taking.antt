@@ -11,27 +11,40 @@ use Rattle.buffers.proofs.Laws.{over-start, over-next}
 use Rattle.definitions.specs.Rule.{Rule, size}
 use Rattle.definitions.specs.Grammar.{Got, got, refused, readOf, ruleOf, blocksIn, longest}
 use Rattle.definitions.specs.Columns.{flowOf}
-use Rattle.definitions.specs.Plan.{planOf, planSize, same, bodiesAt, carried, planned}
+use Rattle.definitions.specs.Plan.{planOf, headSize, longestPlan, same, bodiesAt, carried, planned}
 use Rattle.definitions.specs.declared.Refusal.{Refusal}
 use Rattle.definitions.specs.declared.Read.the-variants as read
 use Rattle.definitions.proofs.Tests.{clash}
 use Rattle.pages.proofs.Reading.{absurd-got}
 use Rattle.readers.proofs.Accepted.{rule-in}
 use Rattle.rules.proofs.FileLaws.{read-got, read-refused}
-use Rattle.flows.specs.Flow.{Ruled}
+use Rattle.rules.proofs.Uncycled.{rule-parsed}
+use Rattle.plans.specs.Laid.{IsRule, OrderFor, Ordering, sizeFor}
 use Rattle.plans.specs.declared.Taken.{Taken}
 use Rattle.plans.specs.declared.Taken.the-variants as taken
 use Rattle.plans.specs.Taken.{takenOf, Extracted, Taking}
 use Rattle.plans.proofs.Fields.{plan-length}
 use Rattle.plans.proofs.Accepted.{Plan, is-plan, same-refl, same-is}
 use Rattle.readers.proofs.Places.{rule-end, rule-header}
-use Rattle.plans.proofs.Ruling.{rule-has-block}
+use Rattle.plans.proofs.Ruling.{rule-has-block, ruled-plan}
+
+-- the size of the plan that is compiled again
+module _ {s : List ℕ} {count : ℕ} {bytes : List ℕ} (o : Ordering s count bytes) where
+  pub sized-is : {blocks total : ℕ} → total ≡ headSize blocks count + length s - 4 → blocks ≡ blocksIn s → total ≡ sizeFor s (length (take count bytes))
+  sized-is et eb = rw (length-take-le count bytes (o .there), ← eb) et
+
+module _ (s : List ℕ) (w : IsRule s) {count : ℕ} {bytes : List ℕ} (o : Ordering s count bytes) where
+  pub compared-fits : sizeFor s (length (take count bytes)) ≤ longestPlan
+  compared-fits = ruled-plan s w _ (omega (arith, length-take-le count bytes (o .there), o .few))
+
+  pub sized : {blocks total : ℕ} → total ≡ headSize blocks count + length s - 4 → blocks ≡ blocksIn s → total ≤ longestPlan
+  sized et eb = omega (arith, sized-is o et eb, compared-fits)
 
 -- a plan that was compiled into a longer buffer, compared at its own size
-pub compared : (s : List ℕ) (r : Rule) (m : ℕ) → ruleOf s ≡ got r m → (p : List ℕ) (size : ℕ) → size ≡ planSize (blocksIn s) (length s)
+pub compared : (s : List ℕ) (r : Rule) (m : ℕ) → ruleOf s ≡ got r m → (order : List ℕ) → OrderFor s order → (p : List ℕ) (size : ℕ) → size ≡ sizeFor s (length order)
     → (old new : List ℕ) → new ≡ over old 0 (planOf r s) → {b : Bool} → b ≡ same (take size new) p → b ≡ same (planOf r s) p
-compared s r m e p size es old new w q =
-    let long : length (planOf r s) ≡ size = plan-length (flowOf r) r s (rule-header s r m e) ∙ rw (rule-in s r m e .blocks-are) (sym es) in
+compared s r m e order o p size es old new w q =
+    let long : length (planOf r s) ≡ size = plan-length (flowOf r) r s (rule-header s r m (rule-parsed s r m e)) ∙ rw (rule-in s r m (rule-parsed s r m e) .blocks-are, ← o r m e) (sym es) in
     let part : take size new ≡ planOf r s = rw (w, over-start old (planOf r s)) (take-at (planOf r s) _ size long) in
     q ∙ ap (λ l. same l p) part
 
@@ -63,7 +76,7 @@ module _ (p : List ℕ) where
   pub cut-entry : length p < 8 → takenOf (planned p) ≡ taken.NotPlan
   cut-entry h = not-plan (λ r n a.
       let l = rule-has-block (carried p) r n (a .rule) in
-      omega (arith, ap length (a .bytes), plan-length (flowOf r) r (carried p) (omega arith), rule-in (carried p) r n (a .rule) .blocks-from))
+      omega (arith, ap length (a .bytes), plan-length (flowOf r) r (carried p) (omega arith), rule-in (carried p) r n (rule-parsed (carried p) r n (a .rule)) .blocks-from))
 
   -- where there are no bodies, what is carried is at most a header
   pub cut-bodies : length p < bodiesAt p → takenOf (planned p) ≡ taken.NotPlan
@@ -77,7 +90,7 @@ module _ (p : List ℕ) where
     carried-length = rw e (simp (length-append, length-take-le 4 p h, length-drop) (omega arith))
 
     pub too-long : longest - 4 < length p - at → takenOf (planned p) ≡ taken.NotPlan
-    too-long l = not-plan (λ r n a. omega (arith, a .short, rule-end (carried p) r n (a .rule), carried-length))
+    too-long l = not-plan (λ r n a. omega (arith, a .short, rule-end (carried p) r n (rule-parsed (carried p) r n (a .rule)), carried-length))
 
     pub all-there : length p - at + 4 ≤ longest → (old : List ℕ) {d₁ d₂ : List ℕ} → longest ≤ length old
         → d₁ ≡ over old 0 (take 4 p) → d₂ ≡ over d₁ 4 (take (length p - at) (drop at p)) → Extracted p (taken.Rule (length p - at + 4)) d₂
@@ -114,7 +127,7 @@ module _ {p : List ℕ} {t : Taken} {buffer : List ℕ} (c : Extracted p t buffe
       is : (r : Rule) × (ruleOf (take n buffer) ≡ got r m)
       is = read-got (ruleOf (take n buffer)) m e
 
-      pub taken-ruled : Ruled (take n buffer)
+      pub taken-ruled : IsRule (take n buffer)
       taken-ruled = record { rule = is .0; end = m; is = is .1; short = omega (arith, taken-length, c .short n carries) }
 
       module _ {b : Bool} (compiles : (r : Rule) (k : ℕ) → ruleOf (take n buffer) ≡ got r k → b ≡ same (planOf r (take n buffer)) p) where
@@ -123,7 +136,7 @@ module _ {p : List ℕ} {t : Taken} {buffer : List ℕ} (c : Extracted p t buffe
         taking-all y =
             let s : planOf (is .0) (take n buffer) ≡ p = same-is _ p (sym (compiles (is .0) m (is .1)) ∙ y) in
             let b = c .bytes n carries in
-            let whole : m ≡ n = rule-end (take n buffer) (is .0) m (is .1) ∙ taken-length in
+            let whole : m ≡ n = rule-end (take n buffer) (is .0) m (rule-parsed (take n buffer) (is .0) m (is .1)) ∙ taken-length in
             let a : planned p ≡ got (is .0) m = is-plan p (is .0) m .1 (record { rule = ap ruleOf (sym b) ∙ is .1; short = omega (arith, c .short n carries); bytes = ap (planOf (is .0)) (sym b) ∙ s }) in
             record { answer = rw a (ap taken.Rule (sym whole)); bytes = λ k f. let q : n ≡ k = cc in rw (← q) b }
 

@@ -3,3 +3,4 @@ pub mod Taken
 pub mod Accepted
 pub mod Promised
 pub mod Older
+pub mod Ordered

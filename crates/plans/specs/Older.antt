@@ -1,5 +1,5 @@
--- 02, K3: what is said of dead blocks in a plan's bytes, and the plan that document 01 gave before the request, in which every block counts. It stands here
--- for the theorems of proofs/Older.antt alone.
+-- 02, K3: what is said of dead blocks in a plan's bytes, and the plan with all blocks counted, dead ones too. It stands here for the theorems of
+-- proofs/Older.antt alone. It has K5's order bytes; where no goto goes back, it is the plan that document 01 gave.
 use Prim.Native.Nat.{ℕ, _<_}
 use mathlib.Core.Path.{_≡_}
 use mathlib.Core.Bool.{true}

@@ -7,7 +7,7 @@ use lib.ListN.{drop}
 use Rattle.definitions.specs.Rule.{Rule, size}
 use Rattle.definitions.specs.Grammar.{Got, got, then, ruleOf}
 use Rattle.definitions.specs.Columns.{flowOf, J, outputs, Inputs}
-use Rattle.definitions.specs.Plan.{bitOf, placeOf, headSize, carried, planned}
+use Rattle.definitions.specs.Plan.{bitOf, placeOf, bodiesFrom, carried, planned}
 use Rattle.definitions.specs.Pages.{wordAt, unpacked}
 
 -- a file's own rule: what its pages hold, read as a rule
@@ -41,7 +41,7 @@ pub record Exactly (v mask : ℕ) (set : ℕ → Bool) : Type 0 where
 -- rule's from that block on
 pub record Carries (plan : List ℕ) (r : Rule) (inputs : ℕ → ℕ → Bool) : Type 0 where
   pub lc : (b : ℕ) → b < size r → J (flowOf r) b ≡ true → Exactly (r .variables) (lcMask plan) (inputs b)
-  pub offset : (b : ℕ) → b < size r → offsetIn plan b ≡ placeOf r (carried plan) b - 4 + headSize (size r)
+  pub offset : (b : ℕ) → b < size r → offsetIn plan b ≡ placeOf r (carried plan) b - 4 + bodiesFrom r
   pub body : (b : ℕ) → b < size r → drop (offsetIn plan b) plan ≡ drop (placeOf r (carried plan) b) (carried plan)
   pub input : (b : ℕ) → b < size r → Exactly (r .variables) (inputMask plan b) (inputs b)
   pub output : (b : ℕ) → b < size r → Exactly (r .variables) (outputMask plan b) (outputs (flowOf r) inputs b)

@@ -2,6 +2,7 @@
 mod bytes;
 
 pub use bytes::bodies_at;
+use definitions::BLOCKS;
 use definitions::LONGEST;
 use definitions::LONGEST_PLAN;
 use definitions::Read;
@@ -9,18 +10,41 @@ use definitions::Reply;
 use definitions::refuse;
 ghost use mathlib.Core.Path.{_≡_};
 ghost use Prim.Native.Nat.{ℕ, _≤_};
-ghost use lib.ListN.{length, take};
+ghost use lib.ListN.{length};
 ghost use Rattle.definitions.specs.Rule.{Rule};
-ghost use Rattle.definitions.specs.Grammar.{got, ruleOf, blocksIn, longest};
-ghost use Rattle.definitions.specs.Plan.{planOf, planSize, same, planned};
+ghost use Rattle.definitions.specs.Grammar.{got, ruleOf, longest};
+ghost use Rattle.definitions.specs.Plan.{planOf, same, planned};
 ghost use Rattle.definitions.specs.Calls.{Wrote, toCompile, columnsReply};
-ghost use Rattle.flows.specs.Flow.{Ruled};
 ghost use Rattle.buffers.specs.Words.{over};
+ghost use Rattle.plans.specs.Laid.{IsRule, OrderFor, Ordering, sizeFor};
 ghost use Rattle.plans.specs.Taken.{Extracted, Taking};
 
-// The plan of a rule, into out from its start.
-fn put_plan(rule: &[u8], out: &mut [u8])
-    requires { ⌜ Ruled (now rule) × (planSize (blocksIn (now rule)) (length (now rule)) ≤ length (now out)) ⌝ }
+// The order bytes of a rule's plan: how many there are, none or one for each block, and an array that they begin.
+struct OrderBytes {
+    count: usize,
+    bytes: [u8; BLOCKS],
+}
+
+fn order_of(rule: &[u8]) -> OrderBytes
+    requires { ⌜ IsRule (now rule) ⌝ }
+    ensures { λ o. ⌜ Ordering (now (rule .entry)) (o .count) (o .bytes) ⌝ }
+{
+    let n = bytes::byte(rule, 3);
+    let gotos = flows::gotos_of(rule);
+    if orders::goes_back(n, &gotos) {
+        let bytes = orders::order(n, &gotos);
+        OrderBytes { count: n, bytes }
+    } else {
+        OrderBytes {
+            count: 0,
+            bytes: [0u8; BLOCKS],
+        }
+    }
+}
+
+// The plan of a rule with these order bytes, into out from its start.
+fn put_plan(rule: &[u8], order: &[u8], out: &mut [u8])
+    requires { ⌜ IsRule (now rule) × (OrderFor (now rule) (now order) × (sizeFor (now rule) (length (now order)) ≤ length (now out))) ⌝ }
     ensures { λ _. ⌜ ((r : Rule) (m : ℕ) → ruleOf (now (rule .entry)) ≡ got r m → now (out .exit) ≡ over (now (out .entry)) 0 (planOf r (now (rule .entry)))) ⌝ }
 {
     let n = bytes::byte(rule, 3);
@@ -35,7 +59,7 @@ fn put_plan(rule: &[u8], out: &mut [u8])
     let inputs = sets.inputs;
     let outputs = sets.outputs;
     let j = sets.j;
-    bytes::lay(rule, out, n, &places, &inputs, &outputs, &j);
+    bytes::lay(rule, order, out, n, &places, &inputs, &outputs, &j);
 }
 
 // A file's plan into out from its start.
@@ -46,11 +70,14 @@ pub fn compile(file: &[u8], out: &mut [u8]) -> Reply
     match rules::open(file, &mut rule) {
         Reply::Refused(f) => Reply::Refused(f),
         Reply::Done(n) => {
-            let size = bytes::plan_size(bytes::byte(&rule, 3), n);
+            let o = order_of(&rule[..n]);
+            let count = o.count;
+            let order = o.bytes;
+            let size = bytes::plan_size(bytes::byte(&rule, 3), count, n);
             if out.len() < size {
                 return refuse(12, 0);
             }
-            put_plan(&rule[..n], out);
+            put_plan(&rule[..n], &order[..count], out);
             Reply::Done(size)
         }
     }
@@ -64,12 +91,15 @@ pub enum Taken {
 
 // Whether the rule compiles to these bytes.
 fn compiles_to(rule: &[u8], plan: &[u8]) -> bool
-    requires { ⌜ Ruled (now rule) ⌝ }
+    requires { ⌜ IsRule (now rule) ⌝ }
     ensures { λ b. ⌜ ((r : Rule) (m : ℕ) → ruleOf (now (rule .entry)) ≡ got r m → b ≡ same (planOf r (now (rule .entry))) (now (plan .entry))) ⌝ }
 {
+    let o = order_of(rule);
+    let count = o.count;
+    let order = o.bytes;
     let mut again = [0u8; LONGEST_PLAN];
-    put_plan(rule, &mut again);
-    let size = bytes::plan_size(bytes::byte(rule, 3), rule.len());
+    put_plan(rule, &order[..count], &mut again);
+    let size = bytes::plan_size(bytes::byte(rule, 3), count, rule.len());
     bytes::equal(&again[..size], plan)
 }
 
@@ -101,7 +131,7 @@ pub fn take(plan: &[u8], rule: &mut [u8]) -> Taken
 {
     match extract(plan, rule) {
         Taken::NotPlan => Taken::NotPlan,
-        Taken::Rule(n) => match readers::read_rule(&rule[..n]) {
+        Taken::Rule(n) => match rules::read_rule(&rule[..n]) {
             Read::Refused(_) => Taken::NotPlan,
             Read::Next(_) => {
                 if compiles_to(&rule[..n], plan) {

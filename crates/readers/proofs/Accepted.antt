@@ -10,11 +10,10 @@ use lib.Seq.{getD-at}
 use borrow.Author.Tests.{ltb-true, ltb-false, leb-true, eqb-true, eqb-false, not-false}
 use Rattle.definitions.specs.Rule.{Stmt, Set, Emit, End, Goto, Jump, Stop, If, Block, Rule, size, blockOf}
 use Rattle.definitions.specs.Columns.{reads, looks, endLooks, readFirst, sets, goesTo, jumpsTo}
-use Rattle.definitions.specs.Grammar.{Got, got, refused, then, one, mayGoto, mayJump, targetsOf, depth, levels, setAt, emitAt, endAt, endBody, endTag, EndTag, gotoTag, jumpTag, stopTag, ifTag, badEnd}
-use Rattle.definitions.specs.Grammar.{StmtTag, setTag, emitTag, noStmt, stmtTag, withFirst, blockBody, blockFrom, between, formIn, variablesIn, argumentsIn, blocksIn, headed, blocksTo, wholeRule, ruleOf}
-use Rattle.definitions.specs.declared.Targets.{Targets}
+use Rattle.definitions.specs.Grammar.{Got, got, refused, then, one, depth, levels, setAt, emitAt, endAt, endBody, endTag, EndTag, gotoTag, jumpTag, stopTag, ifTag, badEnd}
+use Rattle.definitions.specs.Grammar.{StmtTag, setTag, emitTag, noStmt, stmtTag, withFirst, blockBody, blockFrom, between, formIn, variablesIn, argumentsIn, blocksIn, headed, blocksTo, wholeRule, parsed}
 use Rattle.readers.specs.Readings.{stmtAt, stmtBody}
-use Rattle.readers.specs.Accepted.{Below, ExprIn, CondIn, StmtIn, BodyIn, Ahead, EndIn, BlockIn, noBlock, RuleIn}
+use Rattle.readers.specs.Accepted.{Below, ExprIn, CondIn, StmtIn, BodyIn, EndIn, BlockIn, noBlock, RuleIn}
 use Rattle.readers.proofs.Sound.{Sound, both, nothing, single, earlier, refusal, found, next, made, pair, tagged, choice, tested, deep, variable-sound, expr-sound, cond-sound, sound-got}
 
 -- both tests pass
@@ -55,36 +54,34 @@ read-first-in v (Set x a ∷ xs) e h g = both (λ k. k < v) (reads a) (λ k. not
 read-first-in v (Emit a ∷ xs) e h g = both (λ k. k < v) (reads a) (readFirst xs e) (h .0) (read-first-in v xs e (h .1) g)
 
 -- ---- endings
-module _ (ts : Targets) (v : ℕ) where
+module _ (ts : ℕ) (v : ℕ) where
   abbrev In : End → Type 0
   In = EndIn ts v
 
-  goto-in : (t : ℕ) → Ahead ts t → In (Goto t)
+  goto-in : (t : ℕ) → t < ts → In (Goto t)
   unfolding endLooks jumpsTo goesTo
-  goto-in t h = record { variables-exist = nothing (λ k. k < v); gotos-in = single (Ahead ts) t h; jumps-in = nothing (λ u. u < ts .blocks) }
+  goto-in t h = record { variables-exist = nothing (λ k. k < v); gotos-in = single (λ u. u < ts) t h; jumps-in = nothing (λ u. u < ts) }
 
-  jump-in : (t : ℕ) → t < ts .blocks → In (Jump t)
+  jump-in : (t : ℕ) → t < ts → In (Jump t)
   unfolding endLooks jumpsTo goesTo
-  jump-in t h = record { variables-exist = nothing (λ k. k < v); gotos-in = nothing (Ahead ts); jumps-in = single (λ u. u < ts .blocks) t h }
+  jump-in t h = record { variables-exist = nothing (λ k. k < v); gotos-in = nothing (λ u. u < ts); jumps-in = single (λ u. u < ts) t h }
 
   stop-in : In Stop
   unfolding endLooks jumpsTo goesTo
-  stop-in = record { variables-exist = nothing (λ k. k < v); gotos-in = nothing (Ahead ts); jumps-in = nothing (λ u. u < ts .blocks) }
+  stop-in = record { variables-exist = nothing (λ k. k < v); gotos-in = nothing (λ u. u < ts); jumps-in = nothing (λ u. u < ts) }
 
   if-in : (c : _) → CondIn v c → (x y : End) → In x → In y → In (If c x y)
   unfolding endLooks jumpsTo goesTo
   if-in c h x y f g = record {
     variables-exist = both (λ k. k < v) (looks c) _ h (both (λ k. k < v) (endLooks x) (endLooks y) (f .variables-exist) (g .variables-exist));
-    gotos-in = both (Ahead ts) (goesTo x) (goesTo y) (f .gotos-in) (g .gotos-in);
-    jumps-in = both (λ u. u < ts .blocks) (jumpsTo x) (jumpsTo y) (f .jumps-in) (g .jumps-in);
+    gotos-in = both (λ u. u < ts) (goesTo x) (goesTo y) (f .gotos-in) (g .gotos-in);
+    jumps-in = both (λ u. u < ts) (jumpsTo x) (jumpsTo y) (f .jumps-in) (g .jumps-in);
   }
 
   module _ (s : List ℕ) where
     end-body : (E : ℕ → Got End) → ((m : ℕ) → Sound In m (length s) (E m)) → (at : ℕ) → at < length s → (t : EndTag) → Sound In at (length s) (endBody t ts v s E at)
-    end-body E g at h gotoTag =
-        earlier (length s) In at (at + 1) _ (omega arith) (made (length s) (Ahead ts) In Goto goto-in (at + 1) _
-        (tested s _ (mayGoto ts) 7 (at + 1) (omega arith) (omega arith) (λ t e. let q = passed (leb (ts .lowest) t) (ltb t (ts .blocks)) e in (leb-true (ts .lowest) t (q .0), ltb-true t (ts .blocks) (q .1)))))
-    end-body E g at h jumpTag = earlier (length s) In at (at + 1) _ (omega arith) (made (length s) (λ t. t < ts .blocks) In Jump jump-in (at + 1) _ (tested s _ (mayJump ts) 7 (at + 1) (omega arith) (omega arith) (λ t e. ltb-true t (ts .blocks) e)))
+    end-body E g at h gotoTag = earlier (length s) In at (at + 1) _ (omega arith) (made (length s) (λ t. t < ts) In Goto goto-in (at + 1) _ (tested s _ (λ t. ltb t ts) 7 (at + 1) (omega arith) (omega arith) (λ t e. ltb-true t ts e)))
+    end-body E g at h jumpTag = earlier (length s) In at (at + 1) _ (omega arith) (made (length s) (λ t. t < ts) In Jump jump-in (at + 1) _ (tested s _ (λ t. ltb t ts) 7 (at + 1) (omega arith) (omega arith) (λ t e. ltb-true t ts e)))
     end-body E g at h stopTag = found (length s) In at Stop (at + 1) (omega arith) (omega arith) stop-in
     end-body E g at h ifTag =
         earlier (length s) In at (at + 1) _ (omega arith) (next (length s) (CondIn v) In (at + 1) _ _ (cond-sound depth v s (at + 1)) (λ c m l u i.
@@ -124,22 +121,22 @@ module _ (ts : Targets) (v : ℕ) where
 -- the first k blocks; past them stands a block that only stops
 pub record First (n v k : ℕ) (bs : List Block) : Type 0 where
   pub count : length bs ≡ k
-  pub each : (b : ℕ) → BlockIn (targetsOf n b) v (getD bs b noBlock)
+  pub each : (b : ℕ) → BlockIn n v (getD bs b noBlock)
 
 module _ (n v : ℕ) where
-  past-in : (b : ℕ) → BlockIn (targetsOf n b) v noBlock
-  past-in b = record { body-in = tt; ending-in = stop-in (targetsOf n b) v }
+  past-in : (b : ℕ) → BlockIn n v noBlock
+  past-in b = record { body-in = tt; ending-in = stop-in n v }
 
   first-none : First n v 0 []
   first-none = record { count = refl; each = past-in }
 
-  first-more : (k : ℕ) (bs : List Block) (x : Block) → First n v k bs → BlockIn (targetsOf n k) v x → First n v (suc k) (bs ++ (x ∷ []))
+  first-more : (k : ℕ) (bs : List Block) (x : Block) → First n v k bs → BlockIn n v x → First n v (suc k) (bs ++ (x ∷ []))
   first-more k bs x f g = record { count = long; each = λ b. go b (ltb b k) (eqb b k) refl refl }
     where
       long : length (bs ++ (x ∷ [])) ≡ suc k
       long = let h = f .count in simp length-append (omega arith)
 
-      go : (b : ℕ) (p q : Bool) → ltb b k ≡ p → eqb b k ≡ q → BlockIn (targetsOf n b) v (getD (bs ++ (x ∷ [])) b noBlock)
+      go : (b : ℕ) (p q : Bool) → ltb b k ≡ p → eqb b k ≡ q → BlockIn n v (getD (bs ++ (x ∷ [])) b noBlock)
       go b true q e i = let l = ltb-true b k e in let h = f .count in rw (List·getD-append bs (x ∷ []) _ b (omega arith)) (f .each b)
       go b false true e i = let h = f .count in rw (eqb-true b k i, getD-at bs x [] _ k h) g
       go b false false e i = let l = ltb-false b k e in let d = eqb-false b k i in let m = long in rw (List·getD-eq-default (bs ++ (x ∷ [])) _ {n = b} (omega arith)) (past-in b)
@@ -150,7 +147,7 @@ module _ (n v : ℕ) where
     blocks-sound zero = found (length s) (First n v 0) 3 [] 4 (omega arith) there first-none
     blocks-sound (suc k) =
         next (length s) (First n v k) (First n v (suc k)) 3 (blocksTo n v s k) _ (blocks-sound k) (λ bs at l u h.
-        earlier (length s) (First n v (suc k)) 3 at _ (omega arith) (made (length s) (BlockIn (targetsOf n k) v) (First n v (suc k)) (λ x. bs ++ (x ∷ [])) (λ x g. first-more k bs x h g) at _ (block-sound (targetsOf n k) v s (length s) at)))
+        earlier (length s) (First n v (suc k)) 3 at _ (omega arith) (made (length s) (BlockIn n v) (First n v (suc k)) (λ x. bs ++ (x ∷ [])) (λ x g. first-more k bs x h g) at _ (block-sound n v s (length s) at)))
 
 -- a test that holds where its opposite fails
 holds : (low high x : ℕ) → not (between low high x) ≡ false → (low ≤ x) × (x ≤ high)
@@ -180,8 +177,8 @@ module _ (s : List ℕ) where
     block-in = λ b. rw (f .count) (f .each b);
   }
 
-  pub rule-sound : Sound Good 3 (length s) (ruleOf s)
-  unfolding ruleOf headed
+  pub rule-sound : Sound Good 3 (length s) (parsed s)
+  unfolding parsed headed
   rule-sound =
       choice Good (length s) 3 (ltb (length s) 4) _ _ (λ _. bad 9 (length s) (omega arith) (omega arith) (omega arith)) (λ e. let l = ltb-false (length s) 4 e in
       choice Good (length s) 3 (not (eqb (formIn s) 1)) _ _ (λ _. bad 4 0 (omega arith) (omega arith) (omega arith)) (λ m.
@@ -193,18 +190,15 @@ module _ (s : List ℕ) where
       (accepted (eqb-true (formIn s) 1 (not-false _ m)) (holds 1 16 (variablesIn s) v) (leb-true (argumentsIn s) (variablesIn s) (not-false _ a)) (holds 1 64 (blocksIn s) n) bs f))))))))
 
   -- ---- what is to be had of an accepted rule
-  module _ (r : Rule) (n : ℕ) (e : ruleOf s ≡ got r n) where
+  module _ (r : Rule) (n : ℕ) (e : parsed s ≡ got r n) where
     pub rule-in : RuleIn s r
-    rule-in = sound-got Good 3 (length s) (ruleOf s) rule-sound r n e .2
+    rule-in = sound-got Good 3 (length s) (parsed s) rule-sound r n e .2
 
     pub gotos-exist : (b t : ℕ) → goesTo (blockOf r b .ending) t ≡ true → t < size r
-    gotos-exist b t h = rule-in .block-in b .ending-in .gotos-in t h .1
+    gotos-exist b t h = rule-in .block-in b .ending-in .gotos-in t h
 
     pub jumps-exist : (b t : ℕ) → jumpsTo (blockOf r b .ending) t ≡ true → t < size r
     jumps-exist b t h = rule-in .block-in b .ending-in .jumps-in t h
-
-    pub gotos-rise : (b t : ℕ) → goesTo (blockOf r b .ending) t ≡ true → b < t
-    gotos-rise b t h = omega (arith, rule-in .block-in b .ending-in .gotos-in t h .0)
 
     pub reads-exist : (b k : ℕ) → readFirst (blockOf r b .body) (blockOf r b .ending) k ≡ true → k < r .variables
     reads-exist b k h = read-first-in (r .variables) (blockOf r b .body) (blockOf r b .ending) (rule-in .block-in b .body-in) (rule-in .block-in b .ending-in .variables-exist) k h

@@ -4,30 +4,24 @@ use native.Mathlib.Omega.{arith}
 use mathlib.Core.Path.{_≡_, refl, sym, ap, _∙_}
 use mathlib.Core.Bool.{Bool, true, false}
 use mathlib.Core.List.{List, []}
-use lib.Dec.{ltb, leb·zero}
+use lib.Dec.{ltb}
 use lib.ListN.{length, getD, List·getD-eq-default}
 use borrow.Author.Tests.{ltb-true, ltb-false, lt-ltb, le-ltb, ne-eqb}
 use Rattle.definitions.specs.Rule.{Stmt, Set, Emit, End, Goto, Jump, If, Block}
-use Rattle.definitions.specs.Grammar.{Got, got, refused, then, readOf, byteAt, one, variableAt, targetAt, mayGoto, mayJump, exprAt, condAt, depth, levels, setAt, emitAt, endAt, endBody, endTag, EndTag, gotoTag, jumpTag, stopTag, ifTag, badEnd}
+use Rattle.definitions.specs.Grammar.{Got, got, refused, then, readOf, byteAt, one, variableAt, targetAt, exprAt, condAt, depth, levels, setAt, emitAt, endAt, endBody, endTag, EndTag, gotoTag, jumpTag, stopTag, ifTag, badEnd}
 use Rattle.definitions.specs.Grammar.{StmtTag, setTag, emitTag, noStmt, stmtTag, withFirst, blockBody, blockFrom, blockAt}
-use Rattle.definitions.specs.declared.Targets.{Targets}
 use Rattle.definitions.specs.declared.Refusal.{Refusal}
 use Rattle.definitions.specs.declared.Read.{Read}
 use Rattle.definitions.specs.declared.Read.the-variants.{Next, Refused}
-use Rattle.readers.specs.Readings.{tagAt, dueOf, amongAt, second, stmtAt, stmtBody, isStmt, begins}
+use Rattle.readers.specs.Readings.{tagAt, dueOf, second, stmtAt, stmtBody, isStmt, begins}
 use Rattle.readers.specs.Accepted.{StmtIn}
 use Rattle.readers.specs.declared.exprs.Due.the-variants as due
 use Rattle.readers.proofs.Laws.{made, goes, stays, then-one, then-two, by-tag, no-tag, Tagged, levelled}
 use Rattle.readers.proofs.Sound.{Sound}
 use Rattle.readers.proofs.Accepted.{set-sound, emit-sound}
 
--- ---- targets
--- a jump's are those from 0 on
-jump-target : (ts : Targets) (s : List ℕ) (at : ℕ) → amongAt 0 (ts .blocks) 7 s at ≡ targetAt (mayJump ts) s at
-jump-target ts s at = simp leb·zero
-
 -- ---- endings
-module _ (left : ℕ) (ts : Targets) (v : ℕ) (s : List ℕ) (at : ℕ) where
+module _ (left : ℕ) (ts : ℕ) (v : ℕ) (s : List ℕ) (at : ℕ) where
   abbrev E : ℕ → Got End
   E m = endAt (left - 1) ts v s m
 
@@ -42,11 +36,11 @@ module _ (left : ℕ) (ts : Targets) (v : ℕ) (s : List ℕ) (at : ℕ) where
     end-by : (t : EndTag) → endTag tag ≡ t → r ≡ readOf (endBody t ts v s E at) → r ≡ readOf (endAt left ts v s at)
     end-by t i e = rw (end-level, by-tag (tagAt left s at) (λ t. endBody (endTag t) ts v s E at) tag (d .is), i) e
 
-    pub end-goto : tag ≡ 0x30 → r ≡ readOf (amongAt (ts .lowest) (ts .blocks) 7 s (at + 1)) → r ≡ readOf (endAt left ts v s at)
-    end-goto i e = end-by gotoTag (ap endTag i) (e ∙ sym (made Goto (targetAt (mayGoto ts) s (at + 1))))
+    pub end-goto : tag ≡ 0x30 → r ≡ readOf (targetAt ts s (at + 1)) → r ≡ readOf (endAt left ts v s at)
+    end-goto i e = end-by gotoTag (ap endTag i) (e ∙ sym (made Goto (targetAt ts s (at + 1))))
 
-    pub end-jump : tag ≡ 0x31 → r ≡ readOf (amongAt 0 (ts .blocks) 7 s (at + 1)) → r ≡ readOf (endAt left ts v s at)
-    end-jump i e = end-by jumpTag (ap endTag i) (e ∙ ap readOf (jump-target ts s (at + 1)) ∙ sym (made Jump (targetAt (mayJump ts) s (at + 1))))
+    pub end-jump : tag ≡ 0x31 → r ≡ readOf (targetAt ts s (at + 1)) → r ≡ readOf (endAt left ts v s at)
+    end-jump i e = end-by jumpTag (ap endTag i) (e ∙ sym (made Jump (targetAt ts s (at + 1))))
 
     pub end-stop : tag ≡ 0x32 → r ≡ Next (at + 1) → r ≡ readOf (endAt left ts v s at)
     unfolding readOf
@@ -96,7 +90,7 @@ begins-there s at e = go (ltb at (length s)) refl
     go true q = ltb-true at (length s) q
     go false q = let f : isStmt (stmtTag 0) ≡ true = rw (List·getD-eq-default s 0 (ltb-false at (length s) q)) at e in let z : _≡_ {A = ℕ} 0 1 = cc in absurd (omega arith)
 
-module _ (ts : Targets) (v : ℕ) (s : List ℕ) where
+module _ (ts : ℕ) (v : ℕ) (s : List ℕ) where
   -- past the end of the bytes there is no block, with any fuel
   block-none : (f at : ℕ) → length s ≤ at → blockFrom f ts v s at ≡ refused 9 (length s)
   unfolding blockFrom endAt

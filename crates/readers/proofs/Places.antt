@@ -9,7 +9,7 @@ use lib.ListN.{length, getD, List·getD-append}
 use lib.Seq.{getD-at}
 use borrow.Author.Tests.{ltb-false, eqb-true, eqb-false}
 use Rattle.definitions.specs.Rule.{Block, Rule, size, blockOf}
-use Rattle.definitions.specs.Grammar.{Got, got, refused, then, readOf, one, targetsOf, blockAt, formIn, variablesIn, argumentsIn, blocksTo, wholeRule, ruleOf}
+use Rattle.definitions.specs.Grammar.{Got, got, refused, then, readOf, one, blockAt, formIn, variablesIn, argumentsIn, blocksTo, wholeRule, parsed}
 use Rattle.definitions.specs.Plan.{endOf, placeOf}
 use Rattle.definitions.specs.declared.Read.the-variants.{Next}
 use Rattle.readers.specs.Readings.{headerAt}
@@ -38,12 +38,12 @@ through (refused k q) f b n e = let z : _≡_ {A = ℕ} 0 1 = cc in absurd (omeg
 module _ (n v : ℕ) (s : List ℕ) (there : 4 ≤ length s) where
   -- the last of the first blocks, and those before it
   module _ (k : ℕ) (bs : List Block) (at : ℕ) (e : blocksTo n v s (suc k) ≡ got bs at) where
-    before : Through (blocksTo n v s k) (λ bs at. one (λ b. bs ++ (b ∷ [])) (blockAt (targetsOf n k) v s) at) bs at
+    before : Through (blocksTo n v s k) (λ bs at. one (λ b. bs ++ (b ∷ [])) (blockAt n v s) at) bs at
     unfolding blocksTo
     before = through (blocksTo n v s k) _ bs at e
 
-    last : Through (blockAt (targetsOf n k) v s (before .place)) (λ b m. got (before .first ++ (b ∷ [])) m) bs at
-    last = through (blockAt (targetsOf n k) v s (before .place)) _ bs at (before .then-was)
+    last : Through (blockAt n v s (before .place)) (λ b m. got (before .first ++ (b ∷ [])) m) bs at
+    last = through (blockAt n v s (before .place)) _ bs at (before .then-was)
 
     all : before .first ++ (last .first ∷ []) ≡ bs
     all = let w = last .then-was in cc
@@ -51,24 +51,24 @@ module _ (n v : ℕ) (s : List ℕ) (there : 4 ≤ length s) where
     count : length (before .first) ≡ k
     count = sound-got (First n v k) 3 (length s) (blocksTo n v s k) (blocks-sound n v s there k) (before .first) (before .place) (before .was) .2 .count
 
-    last-stands : blockAt (targetsOf n k) v s (endOf (blocksTo n v s k)) ≡ got (getD bs k noBlock) (endOf (blocksTo n v s (suc k)))
+    last-stands : blockAt n v s (endOf (blocksTo n v s k)) ≡ got (getD bs k noBlock) (endOf (blocksTo n v s (suc k)))
     last-stands =
         let w = last .then-was in
         let q : last .place ≡ at = cc in
         let x : last .first ≡ getD bs k noBlock = sym (getD-at (before .first) (last .first) [] noBlock k count) ∙ ap (λ l. getD l k noBlock) all in
         let y : last .place ≡ endOf (blocksTo n v s (suc k)) = q ∙ sym (ap endOf e) in
         let z : got (last .first) (last .place) ≡ got (getD bs k noBlock) (endOf (blocksTo n v s (suc k))) = cc in
-        ap (λ p. blockAt (targetsOf n k) v s (endOf p)) (before .was) ∙ last .was ∙ z
+        ap (λ p. blockAt n v s (endOf p)) (before .was) ∙ last .was ∙ z
 
   -- of the first k blocks, each stands where the ones before it end
-  stands : (k : ℕ) (bs : List Block) (at : ℕ) → blocksTo n v s k ≡ got bs at → (b : ℕ) → b < k → blockAt (targetsOf n b) v s (endOf (blocksTo n v s b)) ≡ got (getD bs b noBlock) (endOf (blocksTo n v s (suc b)))
+  stands : (k : ℕ) (bs : List Block) (at : ℕ) → blocksTo n v s k ≡ got bs at → (b : ℕ) → b < k → blockAt n v s (endOf (blocksTo n v s b)) ≡ got (getD bs b noBlock) (endOf (blocksTo n v s (suc b)))
   stands zero bs at e b h = absurd (omega arith)
   stands (suc k) bs at e b h = go (eqb b k) refl (λ l. stands k (before k bs at e .first) (before k bs at e .place) (before k bs at e .was) b l)
     where
       go :
           (q : Bool) → eqb b k ≡ q →
-          (b < k → blockAt (targetsOf n b) v s (endOf (blocksTo n v s b)) ≡ got (getD (before k bs at e .first) b noBlock) (endOf (blocksTo n v s (suc b)))) →
-          blockAt (targetsOf n b) v s (endOf (blocksTo n v s b)) ≡ got (getD bs b noBlock) (endOf (blocksTo n v s (suc b)))
+          (b < k → blockAt n v s (endOf (blocksTo n v s b)) ≡ got (getD (before k bs at e .first) b noBlock) (endOf (blocksTo n v s (suc b)))) →
+          blockAt n v s (endOf (blocksTo n v s b)) ≡ got (getD bs b noBlock) (endOf (blocksTo n v s (suc b)))
       go true i f = rw (eqb-true b k i) (last-stands k bs at e)
       go false i f =
           let d = eqb-false b k i in
@@ -78,7 +78,7 @@ module _ (n v : ℕ) (s : List ℕ) (there : 4 ≤ length s) where
           f l ∙ ap (λ y. got y (endOf (blocksTo n v s (suc b)))) x
 
 -- ---- accepted rules
-module _ (s : List ℕ) (r : Rule) (n : ℕ) (e : ruleOf s ≡ got r n) where
+module _ (s : List ℕ) (r : Rule) (n : ℕ) (e : parsed s ≡ got r n) where
   head : Through (headerAt s) (λ _ _. then (blocks s) (wholeRule s)) r n
   head = through (headerAt s) _ r n (sym (rule-is s) ∙ e)
 
@@ -94,7 +94,7 @@ module _ (s : List ℕ) (r : Rule) (n : ℕ) (e : ruleOf s ≡ got r n) where
 
   -- the whole of the bytes was read, and these are the rule's blocks
   pub rule-end : n ≡ length s
-  rule-end = let g = sound-got (RuleIn s) 3 (length s) (ruleOf s) (rule-sound s) r n e in omega (arith, read .1, read .2, g .1)
+  rule-end = let g = sound-got (RuleIn s) 3 (length s) (parsed s) (rule-sound s) r n e in omega (arith, read .1, read .2, g .1)
 
   pub rule-blocks : blocksTo (size r) (r .variables) s (size r) ≡ got (r .blocks) n
   rule-blocks =
@@ -108,5 +108,5 @@ module _ (s : List ℕ) (r : Rule) (n : ℕ) (e : ruleOf s ≡ got r n) where
   unfolding readOf
   rule-header = header-there s (head .place) (ap readOf (head .was))
 
-  pub block-stands : (b : ℕ) → b < size r → blockAt (targetsOf (size r) b) (r .variables) s (placeOf r s b) ≡ got (blockOf r b) (placeOf r s (suc b))
+  pub block-stands : (b : ℕ) → b < size r → blockAt (size r) (r .variables) s (placeOf r s b) ≡ got (blockOf r b) (placeOf r s (suc b))
   block-stands b h = stands (size r) (r .variables) s rule-header (size r) (r .blocks) n rule-blocks b h

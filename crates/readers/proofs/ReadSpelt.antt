@@ -9,8 +9,7 @@ use lib.IntN.{ℤ}
 use lib.ListN.{length, getD}
 use borrow.Author.Tests.{ltb-true, leb-true}
 use Rattle.definitions.specs.Rule.{Expr, Cond, Const, Var, Neg, Op, Case, Compare, Not, Join, Stmt, Set, Emit, End, Goto, Jump, If, Block}
-use Rattle.definitions.specs.declared.Targets.{Targets}
-use Rattle.definitions.specs.Grammar.{Got, got, refused, then, byteAt, one, two, constantIn, constantAt, wordOf, variableAt, targetAt, mayGoto, mayJump, targetsOf, exprAt, condAt, exprBody, condBody, exprTag, condTag}
+use Rattle.definitions.specs.Grammar.{Got, got, refused, then, byteAt, one, two, constantIn, constantAt, wordOf, variableAt, targetAt, exprAt, condAt, exprBody, condBody, exprTag, condTag}
 use Rattle.definitions.specs.Grammar.{ExprTag, constTag, varTag, negTag, caseTag, badExpr, opTag, CondTag, notTag, badCond, compareTag, joinTag, StmtTag, setTag, emitTag, noStmt, stmtTag, EndTag, gotoTag, jumpTag, stopTag, ifTag, badEnd, endTag}
 use Rattle.definitions.specs.Grammar.{endBody, endAt, depth, levels, setAt, emitAt, withFirst, blockBody, blockFrom, blockAt, blocksTo}
 use Rattle.definitions.specs.Spelling.{constantBytes, le32, operatorByte, relationByte, jointByte, exprBytes, condBytes, stmtBytes, endBytes, inTurn, blockBytes}
@@ -157,21 +156,21 @@ module _ (s : List ℕ) where
       abbrev allBlocks : Form (List Block)
       allBlocks = record { keeps = Every (BlockKeeps n v); bytes = inTurn blockBytes }
 
-      target-read : (allowed : ℕ → Bool) → ((t : ℕ) → allowed t ≡ true → t < n) → (at : ℕ) → ReadAs (byteOf (λ t. t < n)) at (targetAt allowed s at)
-      target-read allowed h at = tested-read (λ t. t < n) allowed 7 at h
+      target-read : (at : ℕ) → ReadAs (byteOf (λ t. t < n)) at (targetAt n s at)
+      target-read at = tested-read (λ t. t < n) (λ t. ltb t n) 7 at (λ t p. ltb-true t n p)
 
       module _ (b : ℕ) where
-        abbrev ts : Targets
-        ts = targetsOf n b
+        abbrev ts : ℕ
+        ts = n
 
         end-body : (d at : ℕ) → at < length s → (E : ℕ → Got End) → ((m : ℕ) → ReadAs (ends d) m (E m)) → (t : EndTag) → EndByte (getD s at 0) t → ReadAs (ends (suc d)) at (endBody t ts v s E at)
         unfolding endBytes endDepth EndKeeps
         end-body d at there E h gotoTag e =
-            one-more (byteOf (λ t. t < n)) (ends (suc d)) at Goto (0x30 ∷ []) (at + 1) (targetAt (mayGoto ts) s (at + 1)) (there, e, refl) (λ t. refl) (λ t k. (omega arith, k))
-            (target-read (mayGoto ts) (λ t p. ltb-true t n (and-parts (leb (ts .lowest) t) (ltb t n) p .1)) (at + 1))
+            one-more (byteOf (λ t. t < n)) (ends (suc d)) at Goto (0x30 ∷ []) (at + 1) (targetAt ts s (at + 1)) (there, e, refl) (λ t. refl) (λ t k. (omega arith, k))
+            (target-read (at + 1))
         end-body d at there E h jumpTag e =
-            one-more (byteOf (λ t. t < n)) (ends (suc d)) at Jump (0x31 ∷ []) (at + 1) (targetAt (mayJump ts) s (at + 1)) (there, e, refl) (λ t. refl) (λ t k. (omega arith, k))
-            (target-read (mayJump ts) (λ t p. ltb-true t n p) (at + 1))
+            one-more (byteOf (λ t. t < n)) (ends (suc d)) at Jump (0x31 ∷ []) (at + 1) (targetAt ts s (at + 1)) (there, e, refl) (λ t. refl) (λ t k. (omega arith, k))
+            (target-read (at + 1))
         end-body d at there E h stopTag e = ((omega arith, tt), (there, e, refl))
         end-body d at there E h ifTag e =
             if-then _ _ (condAt depth v s (at + 1)) _ (cond-read depth (at + 1)) (λ c m j.
@@ -224,7 +223,7 @@ module _ (s : List ℕ) where
       blocks-read zero = (tt, refl)
       blocks-read (suc k) =
           if-then _ _ (blocksTo n v s k) _ (blocks-read k) (λ bs m j.
-          one-more blocks allBlocks 4 (λ x. bs ++ (x ∷ [])) (inTurn blockBytes bs) m (blockAt (targetsOf n k) v s m) (j .1) (in-turn-last blockBytes bs) (λ x k. every-append (BlockKeeps n v) bs (x ∷ []) (j .0) (k, tt)) (block-read k (length s) m))
+          one-more blocks allBlocks 4 (λ x. bs ++ (x ∷ [])) (inTurn blockBytes bs) m (blockAt n v s m) (j .1) (in-turn-last blockBytes bs) (λ x k. every-append (BlockKeeps n v) bs (x ∷ []) (j .0) (k, tt)) (block-read k (length s) m))
 
       pub blocks-spelt : (k : ℕ) (bs : List Block) (m : ℕ) → blocksTo n v s k ≡ got bs m → Every (BlockKeeps n v) bs × Spelt s 4 (inTurn blockBytes bs) m
       blocks-spelt k bs m e = rw e at (blocks-read k)

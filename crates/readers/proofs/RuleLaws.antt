@@ -10,8 +10,7 @@ use lib.Dec.{ltb, leb, eqb}
 use lib.ListN.{length}
 use borrow.Author.Tests.{ltb-false, lt-ltb, le-ltb}
 use Rattle.definitions.specs.Rule.{Block}
-use Rattle.definitions.specs.Grammar.{Got, got, refused, then, readOf, one, between, targetsOf, blockAt, blocksTo, formIn, variablesIn, argumentsIn, blocksIn, headed, wholeRule, ruleOf}
-use Rattle.definitions.specs.declared.Targets.{Targets}
+use Rattle.definitions.specs.Grammar.{Got, got, refused, then, readOf, one, between, blockAt, blocksTo, formIn, variablesIn, argumentsIn, blocksIn, headed, wholeRule, parsed}
 use Rattle.definitions.specs.declared.Refusal.{Refusal}
 use Rattle.definitions.specs.declared.Read.{Read}
 use Rattle.definitions.specs.declared.Read.the-variants.{Next, Refused}
@@ -21,26 +20,26 @@ use Rattle.readers.proofs.Laws.{goes, stays, then-one}
 -- ---- blocks
 module _ (n v : ℕ) (s : List ℕ) where
   -- one more block, as the reader goes
-  next-block : (k : ℕ) → readOf (blocksTo n v s (suc k)) ≡ readOf (then (blocksTo n v s k) (λ _ at. blockAt (targetsOf n k) v s at))
+  next-block : (k : ℕ) → readOf (blocksTo n v s (suc k)) ≡ readOf (then (blocksTo n v s k) (λ _ at. blockAt n v s at))
   unfolding blocksTo
-  next-block k = then-one (λ bs b. bs ++ (b ∷ [])) (blocksTo n v s k) (blockAt (targetsOf n k) v s)
+  next-block k = then-one (λ bs b. bs ++ (b ∷ [])) (blocksTo n v s k) (blockAt n v s)
 
-  -- what reading block k at its targets answers, as the next block's answer
-  by-targets : (k at : ℕ) (ts : Targets) (r : Read) → ts ≡ targetsOf n k → readOf (blocksTo n v s k) ≡ Next at → readOf (blockAt ts v s at) ≡ r → readOf (blocksTo n v s (suc k)) ≡ r
-  by-targets k at ts r g e h = next-block k ∙ sym (goes (blocksTo n v s k) (λ _ at. blockAt (targetsOf n k) v s at) at r e (λ _. sym h ∙ ap (λ (t : Targets). readOf (blockAt t v s at)) g))
+  -- what reading block k answers, as the next block's answer
+  by-block : (k at : ℕ) (r : Read) → readOf (blocksTo n v s k) ≡ Next at → readOf (blockAt n v s at) ≡ r → readOf (blocksTo n v s (suc k)) ≡ r
+  by-block k at r e h = next-block k ∙ sym (goes (blocksTo n v s k) (λ _ at. blockAt n v s at) at r e (λ _. sym h))
 
-  pub blocks-next : (k at m : ℕ) (ts : Targets) → ts ≡ targetsOf n k → readOf (blocksTo n v s k) ≡ Next at → readOf (blockAt ts v s at) ≡ Next m → readOf (blocksTo n v s (k + 1)) ≡ Next m
-  blocks-next k at m ts g e h = rw (add-one k) (by-targets k at ts (Next m) g e h)
+  pub blocks-next : (k at m : ℕ) → readOf (blocksTo n v s k) ≡ Next at → readOf (blockAt n v s at) ≡ Next m → readOf (blocksTo n v s (k + 1)) ≡ Next m
+  blocks-next k at m e h = rw (add-one k) (by-block k at (Next m) e h)
 
   -- a refusal among the first blocks is that of all
   blocks-stay : (k j : ℕ) (r : Refusal) → readOf (blocksTo n v s k) ≡ Refused r → readOf (blocksTo n v s (k + j)) ≡ Refused r
   blocks-stay k zero r e = rw (add-zero k) e
-  blocks-stay k (suc j) r e = rw (add-suc k j) (next-block (k + j) ∙ sym (stays (blocksTo n v s (k + j)) (λ _ at. blockAt (targetsOf n (k + j)) v s at) r (blocks-stay k j r e)))
+  blocks-stay k (suc j) r e = rw (add-suc k j) (next-block (k + j) ∙ sym (stays (blocksTo n v s (k + j)) (λ _ at. blockAt n v s at) r (blocks-stay k j r e)))
 
-  pub blocks-refused : (k at : ℕ) (r : Refusal) (ts : Targets) → k < n → ts ≡ targetsOf n k → readOf (blocksTo n v s k) ≡ Next at → readOf (blockAt ts v s at) ≡ Refused r → readOf (blocksTo n v s n) ≡ Refused r
-  blocks-refused k at r ts h g e f =
+  pub blocks-refused : (k at : ℕ) (r : Refusal) → k < n → readOf (blocksTo n v s k) ≡ Next at → readOf (blockAt n v s at) ≡ Refused r → readOf (blocksTo n v s n) ≡ Refused r
+  blocks-refused k at r h e f =
       let q : suc k + (n - suc k) ≡ n = omega arith in
-      ap (λ m. readOf (blocksTo n v s m)) (sym q) ∙ blocks-stay (suc k) (n - suc k) r (by-targets k at ts (Refused r) g e f)
+      ap (λ m. readOf (blocksTo n v s m)) (sym q) ∙ blocks-stay (suc k) (n - suc k) r (by-block k at (Refused r) e f)
 
   pub blocks-all : (k at : ℕ) → n ≤ k → k ≤ n → readOf (blocksTo n v s k) ≡ Next at → Next at ≡ readOf (blocksTo n v s n)
   blocks-all k at l u e = let q : k ≡ n = omega arith in sym e ∙ ap (λ m. readOf (blocksTo n v s m)) q
@@ -66,11 +65,11 @@ module _ (s : List ℕ) where
   abbrev pub blocks : Got (List Block)
   blocks = blocksTo (blocksIn s) (variablesIn s) s (blocksIn s)
 
-  pub rule-is : ruleOf s ≡ then (headerAt s) (λ _ _. then blocks (wholeRule s))
-  unfolding ruleOf
+  pub rule-is : parsed s ≡ then (headerAt s) (λ _ _. then blocks (wholeRule s))
+  unfolding parsed
   rule-is = headed-then s (then blocks (wholeRule s))
 
-  pub rule-headless : (r : Refusal) → readOf (headerAt s) ≡ Refused r → Refused r ≡ readOf (ruleOf s)
+  pub rule-headless : (r : Refusal) → readOf (headerAt s) ≡ Refused r → Refused r ≡ readOf (parsed s)
   rule-headless r e = stays (headerAt s) (λ _ _. then blocks (wholeRule s)) r e ∙ ap readOf (sym rule-is)
 
   module _ (h : ℕ) (e : readOf (headerAt s) ≡ Next h) where
@@ -82,16 +81,16 @@ module _ (s : List ℕ) where
         go true rest q f = let z : _≡_ {A = ℕ} 0 1 = cc in absurd (omega arith)
         go false rest q f = ltb-false (length s) 4 q
 
-    by-blocks : (r : Read) → r ≡ readOf (then blocks (wholeRule s)) → r ≡ readOf (ruleOf s)
+    by-blocks : (r : Read) → r ≡ readOf (then blocks (wholeRule s)) → r ≡ readOf (parsed s)
     by-blocks r f = goes (headerAt s) (λ _ _. then blocks (wholeRule s)) h r e (λ _. f) ∙ ap readOf (sym rule-is)
 
-    pub rule-refused : (r : Refusal) → readOf blocks ≡ Refused r → Refused r ≡ readOf (ruleOf s)
+    pub rule-refused : (r : Refusal) → readOf blocks ≡ Refused r → Refused r ≡ readOf (parsed s)
     rule-refused r f = by-blocks (Refused r) (stays blocks (wholeRule s) r f)
 
-    pub rule-longer : (m : ℕ) → readOf blocks ≡ Next m → m < length s → Refused (record { number = 10; place = m }) ≡ readOf (ruleOf s)
+    pub rule-longer : (m : ℕ) → readOf blocks ≡ Next m → m < length s → Refused (record { number = 10; place = m }) ≡ readOf (parsed s)
     unfolding readOf
     rule-longer m f l = by-blocks _ (goes blocks (wholeRule s) m _ f (λ bs. rw (lt-ltb m (length s) l)))
 
-    pub rule-whole : (m : ℕ) → readOf blocks ≡ Next m → length s ≤ m → Next m ≡ readOf (ruleOf s)
+    pub rule-whole : (m : ℕ) → readOf blocks ≡ Next m → length s ≤ m → Next m ≡ readOf (parsed s)
     unfolding readOf
     rule-whole m f l = by-blocks _ (goes blocks (wholeRule s) m _ f (λ bs. rw (le-ltb m (length s) l)))

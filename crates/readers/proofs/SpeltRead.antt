@@ -11,9 +11,8 @@ use lib.Seq.{take-suc, take-length}
 use borrow.Author.Tests.{lt-ltb, le-ltb, le-leb, eq-eqb, ne-eqb}
 use Rattle.definitions.specs.Rule.{Expr, Cond, Const, Var, Neg, Op, Case, Compare, Not, Join, Stmt, Set, Emit, End, Goto, Jump, Stop, If, Block, Rule, size, blockOf}
 use Rattle.definitions.specs.Columns.{goesTo}
-use Rattle.definitions.specs.Grammar.{Got, got, refused, then, byteAt, one, two, constantAt, variableAt, targetAt, mayGoto, mayJump, targetsOf, twos, exprAt, condAt, exprBody, condBody, exprTag, condTag}
-use Rattle.definitions.specs.declared.Targets.{Targets}
-use Rattle.definitions.specs.Grammar.{ExprTag, constTag, varTag, negTag, caseTag, opTag, CondTag, notTag, compareTag, joinTag, noStmt, stmtTag, EndTag, gotoTag, jumpTag, stopTag, ifTag, endTag, endBody, endAt, depth, levels, blockBody, blockAt, blocksTo, withFirst, headed, ruleOf}
+use Rattle.definitions.specs.Grammar.{Got, got, refused, then, byteAt, one, two, constantAt, variableAt, targetAt, twos, exprAt, condAt, exprBody, condBody, exprTag, condTag}
+use Rattle.definitions.specs.Grammar.{ExprTag, constTag, varTag, negTag, caseTag, opTag, CondTag, notTag, compareTag, joinTag, noStmt, stmtTag, EndTag, gotoTag, jumpTag, stopTag, ifTag, endTag, endBody, endAt, depth, levels, blockBody, blockAt, blocksTo, withFirst, headed, parsed}
 use Rattle.definitions.specs.Spelling.{constantBytes, unsigned, exprBytes, condBytes, stmtBytes, endBytes, inTurn, blockBytes, bytesOf}
 use Rattle.definitions.specs.Limits.{exprDepth, condDepth, endDepth, InRange, ExprKeeps, CondKeeps, StmtKeeps, EndKeeps, Every, BlockKeeps, Limits}
 use Rattle.definitions.proofs.Tests.{or-left, or-right, and-both}
@@ -73,7 +72,7 @@ module _ (s : List ℕ) where
   cond-tag : (d v at : ℕ) (t : CondTag) → 1 ≤ d → at < length s → condTag (getD s at 0) ≡ t → condAt d v s at ≡ condBody t (λ n. exprAt (d - 1) v s n) (λ n. condAt (d - 1) v s n) at
   cond-tag d v at t h l e = cond-level d v s at ∙ rw (tag-gives d at h l, e)
 
-  end-tag : (d : ℕ) (ts : Targets) (v at : ℕ) (t : EndTag) → 1 ≤ d → at < length s → endTag (getD s at 0) ≡ t → endAt d ts v s at ≡ endBody t ts v s (λ m. endAt (d - 1) ts v s m) at
+  end-tag : (d : ℕ) (ts : ℕ) (v at : ℕ) (t : EndTag) → 1 ≤ d → at < length s → endTag (getD s at 0) ≡ t → endAt d ts v s at ≡ endBody t ts v s (λ m. endAt (d - 1) ts v s m) at
   end-tag d ts v at t h l e = end-level d ts v s at ∙ rw (tag-gives d at h l, e)
 
   -- ---- expressions and conditions
@@ -109,22 +108,22 @@ module _ (s : List ℕ) where
         ∙ two-give condBytes (Join j) _ a b (cond-gives a (d - 1) v (omega arith) (k .0)) (cond-gives b (d - 1) v (omega arith) (k .1)) (at + 1) n (st .2)
 
   -- ---- endings and blocks
-  module _ (ts : Targets) (v : ℕ) where
-    end-gives : (e : End) (d : ℕ) → endDepth e ≤ d → EndKeeps (ts .blocks) v e → ((t : ℕ) → goesTo e t ≡ true → ts .lowest ≤ t) → Gives endBytes (endAt d ts v s) e
-    unfolding endBytes endDepth EndKeeps goesTo
-    end-gives (Goto t) d h k up at m st =
+  module _ (ts : ℕ) (v : ℕ) where
+    end-gives : (e : End) (d : ℕ) → endDepth e ≤ d → EndKeeps ts v e → Gives endBytes (endAt d ts v s) e
+    unfolding endBytes endDepth EndKeeps
+    end-gives (Goto t) d h k at m st =
         end-tag d ts v at gotoTag (omega arith) (st .0) (ap endTag (st .1))
-        ∙ one-gives (λ x. x ∷ []) Goto (targetAt (mayGoto ts) s) t (tested-gives (mayGoto ts) 7 t (and-both (leb (ts .lowest) t) _ (le-leb (ts .lowest) t (up t (eq-eqb t t refl))) (lt-ltb t (ts .blocks) k))) (at + 1) m (st .2)
-    end-gives (Jump t) d h k up at m st =
+        ∙ one-gives (λ x. x ∷ []) Goto (targetAt ts s) t (tested-gives (λ t. ltb t ts) 7 t (lt-ltb t ts k)) (at + 1) m (st .2)
+    end-gives (Jump t) d h k at m st =
         end-tag d ts v at jumpTag (omega arith) (st .0) (ap endTag (st .1))
-        ∙ one-gives (λ x. x ∷ []) Jump (targetAt (mayJump ts) s) t (tested-gives (mayJump ts) 7 t (lt-ltb t (ts .blocks) k)) (at + 1) m (st .2)
-    end-gives Stop d h k up at m st = end-tag d ts v at stopTag (omega arith) (st .0) (ap endTag (st .1)) ∙ ap (got Stop) (st .2)
-    end-gives (If c x y) d h k up at m st =
+        ∙ one-gives (λ x. x ∷ []) Jump (targetAt ts s) t (tested-gives (λ t. ltb t ts) 7 t (lt-ltb t ts k)) (at + 1) m (st .2)
+    end-gives Stop d h k at m st = end-tag d ts v at stopTag (omega arith) (st .0) (ap endTag (st .1)) ∙ ap (got Stop) (st .2)
+    end-gives (If c x y) d h k at m st =
         end-tag d ts v at ifTag (omega arith) (st .0) (ap endTag (st .1))
         ∙ first-gives condBytes (condAt depth v s) _ c (If c x y) (endBytes x ++ endBytes y) (cond-gives c depth v (k .0) (k .1))
         (two-give endBytes (If c) _ x y
-        (end-gives x (d - 1) (omega arith) (k .2) (λ t p. up t (or-left (goesTo x t) _ p)))
-        (end-gives y (d - 1) (omega arith) (k .3) (λ t p. up t (or-right (goesTo x t) _ p))))
+        (end-gives x (d - 1) (omega arith) (k .2))
+        (end-gives y (d - 1) (omega arith) (k .3)))
         (at + 1) m (st .2)
 
     -- an ending's tag is no statement's
@@ -147,18 +146,18 @@ module _ (s : List ℕ) where
         rw (ap stmtTag (st .1))
         (ap (λ (p : Got Stmt). then p (λ x m. one (withFirst x) B m)) (one-gives exprBytes Emit (exprAt depth v s) a (expr-gives a depth v (k .0) (k .1)) (at + 1) m (st .2)))
 
-    module _ (e : End) (deep : endDepth e ≤ levels) (keeps : EndKeeps (ts .blocks) v e) (up : (t : ℕ) → goesTo e t ≡ true → ts .lowest ≤ t) where
+    module _ (e : End) (deep : endDepth e ≤ levels) (keeps : EndKeeps ts v e) where
       body-gives : (xs : List Stmt) → Every (StmtKeeps v) xs → (at m : ℕ) → Spelt s at (inTurn stmtBytes xs ++ endBytes e) m → blockAt ts v s at ≡ got (record { body = xs; ending = e }) m
       unfolding inTurn Every
       body-gives [] k at m st =
-          block-is ts v s at ∙ rw (ends-body e at m st) (one-gives endBytes (λ (e : End). record { body = []; ending = e }) (endAt levels ts v s) e (end-gives e levels deep keeps up) at m st)
+          block-is ts v s at ∙ rw (ends-body e at m st) (one-gives endBytes (λ (e : End). record { body = []; ending = e }) (endAt levels ts v s) e (end-gives e levels deep keeps) at m st)
       body-gives (x ∷ xs) k at m st =
           let p = parted s (stmtBytes x) (inTurn stmtBytes xs ++ endBytes e) at m (rw append-assoc at st) in
           block-is ts v s at ∙ stmt-gives x (k .0) (λ m. blockAt ts v s m) at (p .0) (p .1) ∙ rw (body-gives xs (k .1) (p .0) m (p .2))
 
-    block-gives : (x : Block) → BlockKeeps (ts .blocks) v x → ((t : ℕ) → goesTo (x .ending) t ≡ true → ts .lowest ≤ t) → Gives blockBytes (blockAt ts v s) x
+    block-gives : (x : Block) → BlockKeeps ts v x → Gives blockBytes (blockAt ts v s) x
     unfolding blockBytes
-    block-gives x k up = body-gives (x .ending) (k .ending-deep) (k .ending-keeps) up (x .body) (k .body-keeps)
+    block-gives x k = body-gives (x .ending) (k .ending-deep) (k .ending-keeps) (x .body) (k .body-keeps)
 
   -- ---- the blocks of a rule
   module _ (r : Rule) (lim : Limits r) where
@@ -168,7 +167,7 @@ module _ (s : List ℕ) where
     blocks-give (suc k) m l st =
         let e = take-suc (r .blocks) k noBlock l in
         let p = parted s (inTurn blockBytes (take k (r .blocks))) (blockBytes (blockOf r k)) 4 m (rw (e, in-turn-last blockBytes (take k (r .blocks)) (blockOf r k)) at st) in
-        rw (blocks-give k (p .0) (omega arith) (p .1), block-gives (targetsOf (size r) k) (r .variables) (blockOf r k) (every-at (BlockKeeps (size r) (r .variables)) (r .blocks) k noBlock (lim .blocks-keep) l) (λ t q. omega (arith, lim .gotos-rise k t l q)) (p .0) m (p .2), e)
+        rw (blocks-give k (p .0) (omega arith) (p .1), block-gives (size r) (r .variables) (blockOf r k) (every-at (BlockKeeps (size r) (r .variables)) (r .blocks) k noBlock (lim .blocks-keep) l) (p .0) m (p .2), e)
 
 -- ---- a rule
 header-gives : {A : Type 0} (r : Rule) (rest : Got A) → Limits r → headed (bytesOf r) rest ≡ rest
@@ -176,8 +175,8 @@ unfolding headed bytesOf
 header-gives r rest lim =
     rw (le-ltb (length (bytesOf r)) 4 (omega arith), lim .form-is, le-leb 1 (r .variables) (lim .variables-from), le-leb (r .variables) 16 (lim .variables-to), le-leb (r .arguments) (r .variables) (lim .arguments-to), le-leb 1 (size r) (lim .blocks-from), le-leb (size r) 64 (lim .blocks-to))
 
-pub rule-gives : (r : Rule) → Limits r → ruleOf (bytesOf r) ≡ got r (length (bytesOf r))
-unfolding ruleOf bytesOf
+pub rule-gives : (r : Rule) → Limits r → parsed (bytesOf r) ≡ got r (length (bytesOf r))
+unfolding parsed bytesOf
 rule-gives r lim =
     let s = bytesOf r in
     let b = blocks-give s r lim (size r) (length s) (omega arith) (rw (take-length (r .blocks)) (spelt-self s .2 .2 .2 .2)) in

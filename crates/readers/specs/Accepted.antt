@@ -1,12 +1,11 @@
--- What can be relied on in a rule that is accepted: its variables exist, its targets exist, and its gotos rise. This holds of any numbers that are read;
--- where they are bytes, the rule keeps to all limits of the definitions (proofs/Spelling). Assumes nothing: these are definitions.
+-- What can be relied on in a rule that is read to its end (`Grammar: parsed`): its variables exist, and its targets exist. Whether its gotos form a cycle is
+-- not asked here. This holds of any numbers that are read; bytes that are accepted keep to all limits of the definitions (rules/proofs/Spelling). Assumes nothing: these are definitions.
 use Prim.Native.Nat.{ℕ, _<_, _≤_}
 use mathlib.Core.Path.{_≡_}
 use mathlib.Core.Bool.{Bool, true}
 use mathlib.Core.List.{List, [], _∷_}
 use Rattle.definitions.specs.Rule.{Expr, Cond, Stmt, Set, Emit, End, Stop, Block, Rule, size, blockOf}
-use Rattle.definitions.specs.Grammar.{targetsOf, mostVariables, mostBlocks, formIn, variablesIn, argumentsIn, blocksIn}
-use Rattle.definitions.specs.declared.Targets.{Targets}
+use Rattle.definitions.specs.Grammar.{mostVariables, mostBlocks, formIn, variablesIn, argumentsIn, blocksIn}
 use Rattle.definitions.specs.Columns.{reads, looks, endLooks, goesTo, jumpsTo}
 
 -- of all that a set holds, P; or that it lies below a bound
@@ -31,19 +30,15 @@ abbrev pub BodyIn : ℕ → List Stmt → Type 0
 BodyIn v [] = Unit {0}
 BodyIn v (x ∷ xs) = StmtIn v x × BodyIn v xs
 
--- where a goto goes
-abbrev pub Ahead : Targets → ℕ → Type 0
-Ahead ts t = (ts .lowest ≤ t) × (t < ts .blocks)
-
--- of an ending that may name these targets
-pub record EndIn (ts : Targets) (v : ℕ) (e : End) : Type 0 where
+-- of an ending among n blocks
+pub record EndIn (n : ℕ) (v : ℕ) (e : End) : Type 0 where
   pub variables-exist : Below v (endLooks e)
-  pub gotos-in : Each (Ahead ts) (goesTo e)
-  pub jumps-in : Below (ts .blocks) (jumpsTo e)
+  pub gotos-in : Below n (goesTo e)
+  pub jumps-in : Below n (jumpsTo e)
 
-pub record BlockIn (ts : Targets) (v : ℕ) (x : Block) : Type 0 where
+pub record BlockIn (n : ℕ) (v : ℕ) (x : Block) : Type 0 where
   pub body-in : BodyIn v (x .body)
-  pub ending-in : EndIn ts v (x .ending)
+  pub ending-in : EndIn n v (x .ending)
 
 -- what stands for a block past the last
 abbrev pub noBlock : Block
@@ -61,4 +56,4 @@ pub record RuleIn (s : List ℕ) (r : Rule) : Type 0 where
   pub arguments-to : r .arguments ≤ r .variables
   pub blocks-from : 1 ≤ size r
   pub blocks-to : size r ≤ mostBlocks
-  pub block-in : (b : ℕ) → BlockIn (targetsOf (size r) b) (r .variables) (blockOf r b)
+  pub block-in : (b : ℕ) → BlockIn (size r) (r .variables) (blockOf r b)

@@ -1,8 +1,8 @@
 -- Readings that the readers share, beside those of the grammar. Assumes nothing: these are definitions.
 use Prim.Native.Nat.{ℕ, _+_}
-use mathlib.Core.Bool.{Bool, true, false, cond, _&&_}
+use mathlib.Core.Bool.{Bool, true, false, cond}
 use mathlib.Core.List.{List}
-use lib.Dec.{ltb, leb, eqb}
+use lib.Dec.{eqb}
 use lib.ListN.{getD}
 use Rattle.definitions.specs.Rule.{Stmt}
 use Rattle.definitions.specs.Grammar.{Got, got, refused, then, byteAt, StmtTag, setTag, emitTag, noStmt, stmtTag, setAt, emitAt, headed, blocksIn}
@@ -17,10 +17,6 @@ tagAt left s at = then (byteAt s at) (λ t n. cond (eqb left 0) (refused 8 at) (
 unfoldable pub dueOf : Got ℕ → Due
 dueOf (got t n) = Tag t
 dueOf (refused k p) = Refused (record { number = k; place = p })
-
--- a byte from low on and below high; else a refusal with the number
-abbrev pub amongAt : ℕ → ℕ → ℕ → List ℕ → ℕ → Got ℕ
-amongAt low high number s at = then (byteAt s at) (λ k n. cond (leb low k && ltb k high) (got k n) (refused number at))
 
 -- two of a kind, of which the first is passed over
 abbrev pub second : {A : Type 0} → (ℕ → Got A) → ℕ → Got A

@@ -1,6 +1,6 @@
 // Readers of endings, statements and blocks: where what stands at a place ends, or why it is refused.
 use crate::exprs::Due;
-use crate::exprs::read_among;
+use crate::exprs::read_below;
 use crate::exprs::read_cond;
 use crate::exprs::read_expr;
 use crate::exprs::read_tag;
@@ -8,42 +8,29 @@ use crate::exprs::read_variable;
 use definitions::DEPTH;
 use definitions::LEVELS;
 use definitions::Read;
-use definitions::Targets;
 use definitions::misread;
 ghost use mathlib.Core.Path.{_≡_};
-ghost use Prim.Native.Nat.{_<_};
-ghost use Rattle.definitions.specs.Grammar.{readOf, targetsOf, endAt, blockAt};
+ghost use Rattle.definitions.specs.Grammar.{readOf, endAt, blockAt};
 ghost use Rattle.readers.specs.Readings.{begins, stmtAt};
 
-// The targets of one of these blocks.
-pub fn targets_of(blocks: u8, block: u8) -> Targets
-    requires { ⌜ block < blocks ⌝ }
-    ensures { λ r. ⌜ r ≡ targetsOf blocks block ⌝ }
-{
-    let lowest = block + 1;
-    Targets { lowest, blocks }
-}
-
 // The ending at a place: an if holds two more, with a level less.
-pub fn read_end(s: &[u8], at: usize, v: u8, targets: Targets, left: u8) -> Read
-    ensures { λ r. ⌜ r ≡ readOf (endAt left targets v (now (s .entry)) at) ⌝ }
+pub fn read_end(s: &[u8], at: usize, v: u8, blocks: u8, left: u8) -> Read
+    ensures { λ r. ⌜ r ≡ readOf (endAt left blocks v (now (s .entry)) at) ⌝ }
 {
-    let lowest = targets.lowest;
-    let blocks = targets.blocks;
     match read_tag(s, at, left) {
         Due::Refused(e) => Read::Refused(e),
         Due::Tag(tag) => {
             let next = at + 1;
             let less = left - 1;
             match tag {
-                0x30 => read_among(s, next, lowest, blocks, 7),
-                0x31 => read_among(s, next, 0, blocks, 7),
+                0x30 => read_below(s, next, blocks, 7),
+                0x31 => read_below(s, next, blocks, 7),
                 0x32 => Read::Next(next),
                 0x33 => match read_cond(s, next, v, DEPTH) {
                     Read::Refused(e) => Read::Refused(e),
-                    Read::Next(n) => match read_end(s, n, v, targets, less) {
+                    Read::Next(n) => match read_end(s, n, v, blocks, less) {
                         Read::Refused(e) => Read::Refused(e),
-                        Read::Next(m) => read_end(s, m, v, targets, less),
+                        Read::Next(m) => read_end(s, m, v, blocks, less),
                     },
                 },
                 _ => misread(5, at),
@@ -84,8 +71,8 @@ pub fn read_stmt(s: &[u8], at: usize, v: u8) -> Read
 }
 
 // The block at a place: its statements, then its ending.
-pub fn read_block(s: &[u8], at: usize, v: u8, targets: Targets) -> Read
-    ensures { λ r. ⌜ r ≡ readOf (blockAt targets v (now (s .entry)) at) ⌝ }
+pub fn read_block(s: &[u8], at: usize, v: u8, blocks: u8) -> Read
+    ensures { λ r. ⌜ r ≡ readOf (blockAt blocks v (now (s .entry)) at) ⌝ }
 {
     let mut next = at;
     while begins_stmt(s, next) {
@@ -94,5 +81,5 @@ pub fn read_block(s: &[u8], at: usize, v: u8, targets: Targets) -> Read
             Read::Refused(e) => return Read::Refused(e),
         }
     }
-    read_end(s, next, v, targets, LEVELS)
+    read_end(s, next, v, blocks, LEVELS)
 }

@@ -3,8 +3,8 @@ use definitions::Read;
 use definitions::Refusal;
 use definitions::misread;
 ghost use mathlib.Core.Path.{_≡_};
-ghost use Rattle.definitions.specs.Grammar.{readOf, constantAt, variableAt, exprAt, condAt};
-ghost use Rattle.readers.specs.Readings.{tagAt, dueOf, amongAt, second};
+ghost use Rattle.definitions.specs.Grammar.{readOf, belowAt, constantAt, variableAt, exprAt, condAt};
+ghost use Rattle.readers.specs.Readings.{tagAt, dueOf, second};
 
 // The tag that is due at a place, or why none is read there.
 pub enum Due {
@@ -41,15 +41,15 @@ fn read_constant(s: &[u8], at: usize) -> Read
     Read::Next(at + 4)
 }
 
-// A byte that names one of a kind: from `low` on and below `high`, or it is refused with this number.
-pub fn read_among(s: &[u8], at: usize, low: u8, high: u8, number: u8) -> Read
-    ensures { λ r. ⌜ r ≡ readOf (amongAt low high number (now (s .entry)) at) ⌝ }
+// A byte that names one of so many, or it is refused with this number.
+pub fn read_below(s: &[u8], at: usize, high: u8, number: u8) -> Read
+    ensures { λ r. ⌜ r ≡ readOf (belowAt high number (now (s .entry)) at) ⌝ }
 {
     if s.len() <= at {
         return misread(9, s.len());
     }
     let k = s[at];
-    if low <= k && k < high {
+    if k < high {
         Read::Next(at + 1)
     } else {
         misread(number, at)
@@ -60,7 +60,7 @@ pub fn read_among(s: &[u8], at: usize, low: u8, high: u8, number: u8) -> Read
 pub fn read_variable(s: &[u8], at: usize, v: u8) -> Read
     ensures { λ r. ⌜ r ≡ readOf (variableAt v (now (s .entry)) at) ⌝ }
 {
-    read_among(s, at, 0, v, 6)
+    read_below(s, at, v, 6)
 }
 
 // The expression at a place, where so many levels may still stand; what it holds has one less.

@@ -7,7 +7,7 @@ use definitions::Read;
 use definitions::VARIABLES;
 use definitions::misread;
 ghost use mathlib.Core.Path.{_≡_};
-ghost use Rattle.definitions.specs.Grammar.{readOf, between, blocksTo, ruleOf};
+ghost use Rattle.definitions.specs.Grammar.{readOf, between, blocksTo, parsed};
 ghost use Rattle.readers.specs.Readings.{headerAt};
 
 // Whether a number lies between two, both included.
@@ -46,8 +46,7 @@ fn read_blocks(s: &[u8], v: u8, blocks: u8) -> Read
     let mut at = 4;
     let mut block = 0;
     while block < blocks {
-        let targets = blocks::targets_of(blocks, block);
-        match blocks::read_block(s, at, v, targets) {
+        match blocks::read_block(s, at, v, blocks) {
             Read::Next(n) => at = n,
             Read::Refused(e) => return Read::Refused(e),
         }
@@ -56,9 +55,9 @@ fn read_blocks(s: &[u8], v: u8, blocks: u8) -> Read
     Read::Next(at)
 }
 
-// The whole of the bytes as a rule: nothing may follow its last block.
-pub fn read_rule(s: &[u8]) -> Read
-    ensures { λ r. ⌜ r ≡ readOf (ruleOf (now (s .entry))) ⌝ }
+// The whole of the bytes, read to their end: nothing may follow the last block.
+pub fn read_tree(s: &[u8]) -> Read
+    ensures { λ r. ⌜ r ≡ readOf (parsed (now (s .entry))) ⌝ }
 {
     match read_header(s) {
         Read::Refused(e) => Read::Refused(e),

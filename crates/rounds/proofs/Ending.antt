@@ -6,10 +6,11 @@ use native.Mathlib.Decide.{decLt}
 use mathlib.Core.Path.{_≡_, sym, _∙_}
 use mathlib.Core.Bool.{Bool, true, false}
 use mathlib.Core.List.{List}
+use lib.Dec.{ltb}
 use lib.ListN.{length, getD}
 use Rattle.definitions.specs.Values.{Word, valuesIn, value}
 use Rattle.definitions.specs.Rule.{Cond, End, Goto, Jump, Stop, If}
-use Rattle.definitions.specs.Grammar.{got, refused, two, targetAt, mayGoto, mayJump, depth, condAt, endAt, endBody, endTag}
+use Rattle.definitions.specs.Grammar.{got, refused, two, targetAt, depth, condAt, endAt, endBody, endTag}
 use Rattle.definitions.specs.Spelling.{condSize, endSize}
 use Rattle.definitions.specs.Meaning.{atByte, holds}
 use Rattle.definitions.specs.Direct.{exit}
@@ -50,15 +51,15 @@ module _ (left v : ℕ) (s : List ℕ) (at : ℕ) (h : EndHere left v s at) wher
   -- a goto, a jump, a stop
   end-goto : getD s at 0 ≡ 0x30 → (at + 1 < length s) × (h .ending ≡ Goto (getD s (at + 1) 0))
   end-goto e =
-      let w = one-got Goto (targetAt (mayGoto (h .targets)) s) (at + 1) (h .ending) (h .next) (end-as 0x30 e) in
-      let c = target-got s (at + 1) (mayGoto (h .targets)) (w .0) (h .next) (w .1) in
-      (c .0, w .2 ∙ rw (c .1))
+      let w = one-got Goto (targetAt (h .targets) s) (at + 1) (h .ending) (h .next) (end-as 0x30 e) in
+      let c = target-got s (at + 1) (h .targets) (w .0) (h .next) (w .1) in
+      (c .0, w .2 ∙ rw (c .2))
 
   end-jump : getD s at 0 ≡ 0x31 → (at + 1 < length s) × (h .ending ≡ Jump (getD s (at + 1) 0))
   end-jump e =
-      let w = one-got Jump (targetAt (mayJump (h .targets)) s) (at + 1) (h .ending) (h .next) (end-as 0x31 e) in
-      let c = target-got s (at + 1) (mayJump (h .targets)) (w .0) (h .next) (w .1) in
-      (c .0, w .2 ∙ rw (c .1))
+      let w = one-got Jump (targetAt (h .targets) s) (at + 1) (h .ending) (h .next) (end-as 0x31 e) in
+      let c = target-got s (at + 1) (h .targets) (w .0) (h .next) (w .1) in
+      (c .0, w .2 ∙ rw (c .2))
 
   pub goto-there : getD s at 0 ≡ 0x30 → at + 1 < length s
   goto-there e = end-goto e .0

@@ -5,11 +5,11 @@ use borrow.Author.Tests.{lt-ltb, le-leb}
 use mathlib.Core.Path.{_≡_, sym, _∙_}
 use mathlib.Core.Bool.{Bool}
 use mathlib.Core.List.{List, []}
+use lib.Dec.{ltb}
 use lib.ListN.{length, getD, take}
 use lib.Seq.{getD-take}
 use Rattle.definitions.specs.Rule.{Expr, Cond, End, Stmt, Block, Set, Emit, Const, Var, Neg, Op, Case, Compare, Not, Join, Goto, Jump, If}
-use Rattle.definitions.specs.declared.Targets.{Targets}
-use Rattle.definitions.specs.Grammar.{Got, got, refused, then, byteAt, one, two, constantAt, variableAt, targetAt, mayGoto, mayJump, depth, levels, exprAt, condAt, endAt, exprBody, condBody, endBody, setAt, emitAt, withFirst, blockBody, blockFrom}
+use Rattle.definitions.specs.Grammar.{Got, got, refused, then, byteAt, one, two, constantAt, variableAt, targetAt, depth, levels, exprAt, condAt, endAt, exprBody, condBody, endBody, setAt, emitAt, withFirst, blockBody, blockFrom}
 use Rattle.definitions.specs.Grammar.{ExprTag, constTag, varTag, negTag, caseTag, badExpr, opTag, exprTag, CondTag, notTag, badCond, compareTag, joinTag, condTag}
 use Rattle.definitions.specs.Grammar.{EndTag, gotoTag, jumpTag, stopTag, ifTag, badEnd, endTag, StmtTag, setTag, emitTag, noStmt, stmtTag}
 use Rattle.rounds.specs.Run.{Prefix}
@@ -52,13 +52,13 @@ module _ (s s' : List ℕ) (p : Prefix s s') where
       let x = w .2 in
       rw (lt-ltb at (length s') (omega (arith, w .0)), p .same at (w .0), lt-ltb (getD s at 0) v (w .1), ← x, ← q)
 
-  target-over : (allowed : ℕ → Bool) → Over (targetAt allowed s) (targetAt allowed s')
-  target-over allowed at k n e =
-      let w = target-got s at allowed k n e in
+  target-over : (blocks : ℕ) → Over (targetAt blocks s) (targetAt blocks s')
+  target-over blocks at k n e =
+      let w = target-got s at blocks k n e in
       let long = p .longer in
-      let q = w .2 in
-      let x = w .1 in
-      rw (lt-ltb at (length s') (omega (arith, w .0)), p .same at (w .0), w .3, ← x, ← q)
+      let q = w .3 in
+      let x = w .2 in
+      rw (lt-ltb at (length s') (omega (arith, w .0)), p .same at (w .0), lt-ltb (getD s at 0) blocks (w .1), ← x, ← q)
 
   -- a tag is there
   tag-over : {B : Type 0} (at : ℕ) (f f' : ℕ → Got B) (b : B) (m : ℕ) → (f (getD s at 0) ≡ got b m → f' (getD s at 0) ≡ got b m) → then (byteAt s at) (λ t _. f t) ≡ got b m → then (byteAt s' at) (λ t _. f' t) ≡ got b m
@@ -99,10 +99,10 @@ mutual
       (cond-body s s' p v (λ n. exprAt d v s n) (λ n. exprAt d v s' n) (λ n. condAt d v s n) (λ n. condAt d v s' n) (λ at a n e. expr-over d v s s' p at a n e) (λ at a n e. cond-over d v s s' p at a n e) at n (condTag (getD s at 0)) a)
       e
 
-module _ (ts : Targets) (v : ℕ) (s s' : List ℕ) (p : Prefix s s') where
+module _ (ts : ℕ) (v : ℕ) (s s' : List ℕ) (p : Prefix s s') where
   end-body : (E E' : ℕ → Got End) → Over E E' → (at m : ℕ) (x : EndTag) (a : End) → endBody x ts v s E at ≡ got a m → endBody x ts v s' E' at ≡ got a m
-  end-body E E' h at m gotoTag a e = one-over Goto (targetAt (mayGoto ts) s) (targetAt (mayGoto ts) s') (target-over s s' p (mayGoto ts)) (at + 1) a m e
-  end-body E E' h at m jumpTag a e = one-over Jump (targetAt (mayJump ts) s) (targetAt (mayJump ts) s') (target-over s s' p (mayJump ts)) (at + 1) a m e
+  end-body E E' h at m gotoTag a e = one-over Goto (targetAt ts s) (targetAt ts s') (target-over s s' p ts) (at + 1) a m e
+  end-body E E' h at m jumpTag a e = one-over Jump (targetAt ts s) (targetAt ts s') (target-over s s' p ts) (at + 1) a m e
   end-body E E' h at m stopTag a e = e
   end-body E E' h at m ifTag a e = three-over If (λ k. condAt depth v s k) (λ k. condAt depth v s' k) E E' (cond-over depth v s s' p) h (at + 1) a m e
   end-body E E' h at m badEnd a e = e

@@ -5,11 +5,12 @@ use mathlib.Core.Path.{_≡_, refl}
 use mathlib.Core.List.{List, [], _∷_}
 use lib.ListN.{length, take, getD, length-append}
 use Rattle.definitions.specs.Rule.{Block, Rule, size, blockOf}
-use Rattle.definitions.specs.Grammar.{got, targetsOf, blocksTo, ruleOf}
+use Rattle.definitions.specs.Grammar.{got, blocksTo, ruleOf}
 use Rattle.definitions.specs.Plan.{placeOf}
 use Rattle.definitions.specs.Spelling.{stmtBytes, endBytes, inTurn, blockBytes, blockPlace}
 use Rattle.readers.specs.Accepted.{noBlock}
 use Rattle.readers.proofs.Places.{block-stands}
+use Rattle.rules.proofs.Uncycled.{rule-parsed}
 use Rattle.evaluators.proofs.Sizes.{blockSize, block-size}
 
 -- the bytes of one block
@@ -30,5 +31,5 @@ module _ (s : List ℕ) (r : Rule) (n : ℕ) (e : ruleOf s ≡ got r n) where
   unfolding blocksTo inTurn
   place-is zero l = refl
   place-is (suc b) l =
-      let k = block-size (targetsOf (size r) b) (r .variables) s (length s) (placeOf r s b) (blockOf r b) (placeOf r s (suc b)) (block-stands s r n e b (omega arith)) in
+      let k = block-size (size r) (r .variables) s (length s) (placeOf r s b) (blockOf r b) (placeOf r s (suc b)) (block-stands s r n (rule-parsed s r n e) b (omega arith)) in
       omega (arith, k, place-is b (omega arith), one-more (r .blocks) b (omega arith))

@@ -11,7 +11,7 @@ use Rattle.definitions.specs.Values.{Word, Val, valuesIn, Out, value, fault}
 use Rattle.definitions.specs.declared.Flaw.{Flaw}
 use Rattle.definitions.specs.declared.Finish.{Finish}
 use Rattle.definitions.specs.Rule.{Rule, size, blockOf}
-use Rattle.definitions.specs.Grammar.{targetsOf}
+use Rattle.definitions.specs.Grammar.{}
 use Rattle.definitions.specs.Columns.{flowOf, inputsOf, outputsOf}
 use Rattle.definitions.specs.Plan.{maskOf, bitOf, placeOf, wordAt, bodiesAt, carried}
 use Rattle.definitions.specs.Spelling.{bodySize, blockPlace}
@@ -48,10 +48,10 @@ module _ (p : List ℕ) (a : Accepted p) where
     abbrev pub here : (v′ : ℕ) (s : List ℕ) (at : ℕ) → v′ ≡ getD p 1 0 → Prefix (carried p) s → at ≡ placeOf r (carried p) b → BlockHere v′ s at
     here v′ s at ev es ea = record {
       bound = length (carried p);
-      targets = targetsOf (size r) b;
+      targets = (size r);
       what = blockOf r b;
       next = placeOf r (carried p) (suc b);
-      reads = rw (ev ∙ at-variables p a, ea) (block-over (targetsOf (size r) b) v (carried p) s es (length (carried p)) (placeOf r (carried p) b) (blockOf r b) (placeOf r (carried p) (suc b)) (at-place p a b h));
+      reads = rw (ev ∙ at-variables p a, ea) (block-over (size r) v (carried p) s es (length (carried p)) (placeOf r (carried p) b) (blockOf r b) (placeOf r (carried p) (suc b)) (at-place p a b h));
     }
 
     -- what the entry's words say

@@ -13,7 +13,6 @@ use lib.ListN.{length, getD, take, drop, set}
 use lib.Seq.{length-take-le, take-suc-set, drop-set-lt, drop-drop}
 use Rattle.definitions.specs.Values.{Word, number, valuesIn, value, fault}
 use Rattle.definitions.specs.Rule.{Expr, Set, Emit, End, Block}
-use Rattle.definitions.specs.declared.Targets.{Targets}
 use Rattle.definitions.specs.Grammar.{Got, got, then, one, variableAt, depth, levels, exprAt, setAt, emitAt, endAt, withFirst, StmtTag, setTag, emitTag, noStmt, stmtTag, blockBody, blockFrom}
 use Rattle.definitions.specs.Spelling.{stmtSize, inTurn, bodySize}
 use Rattle.definitions.specs.Meaning.{atByte, eval}
@@ -223,7 +222,7 @@ module _ (v : ℕ) (s : List ℕ) (at : ℕ) (h : BlockHere v s at) where
       (w .1 ∙ ap (λ (x : End). got x (h .next)) (sym e), ap (λ (k : Block). k .body) (w .2))
 
 -- what is read is the same where all that it depends on is
-moved : (v : ℕ) (s : List ℕ) (g g' : Targets) (e e' : End) (m m' i p : ℕ) → g ≡ g' → e ≡ e' → m ≡ m' → i ≡ p → endAt levels g v s i ≡ got e m → endAt levels g' v s p ≡ got e' m'
+moved : (v : ℕ) (s : List ℕ) (g g' : ℕ) (e e' : End) (m m' i p : ℕ) → g ≡ g' → e ≡ e' → m ≡ m' → i ≡ p → endAt levels g v s i ≡ got e m → endAt levels g' v s p ≡ got e' m'
 moved v s g g' e e' m m' i p h₁ h₂ h₃ h₄ q = cc
 
 -- lists that are the same from n on are so from a later place on

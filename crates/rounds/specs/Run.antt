@@ -7,7 +7,6 @@ use lib.ListN.{length, getD, take, drop}
 use Rattle.definitions.specs.Values.{Word, Val, valuesIn, Out, value, fault}
 use Rattle.definitions.specs.Rule.{Stmt, End, Block}
 use Rattle.definitions.specs.declared.Flaw.{Flaw}
-use Rattle.definitions.specs.declared.Targets.{Targets}
 use Rattle.definitions.specs.Grammar.{got, endAt, blockFrom, levels}
 use Rattle.definitions.specs.Plan.{bitOf}
 use Rattle.definitions.specs.Spelling.{bodySize}
@@ -31,7 +30,7 @@ pub record Prefix (s s' : List ℕ) : Type 0 where
 
 -- an ending of some block stands there
 pub record EndHere (left v : ℕ) (s : List ℕ) (at : ℕ) : Type 0 where
-  pub targets : Targets
+  pub targets : ℕ
   pub ending : End
   pub next : ℕ
   pub reads : endAt left targets v s at ≡ got ending next
@@ -54,7 +53,7 @@ pub record StmtHere (v : ℕ) (s : List ℕ) (at : ℕ) : Type 0 where
 -- a block, or what is left of one, stands there
 pub record BlockHere (v : ℕ) (s : List ℕ) (at : ℕ) : Type 0 where
   pub bound : ℕ
-  pub targets : Targets
+  pub targets : ℕ
   pub what : Block
   pub next : ℕ
   pub reads : blockFrom bound targets v s at ≡ got what next

@@ -10,8 +10,11 @@ use lib.Dec.{ltb}
 use lib.ListN.{length, take, drop}
 use lib.Seq.{take-append-seam, drop-append-seam}
 use borrow.Author.Tests.{ltb-true, ltb-false, lt-ltb, le-ltb}
-use Rattle.definitions.specs.Rule.{Rule}
-use Rattle.definitions.specs.Grammar.{Got, got, refused, then, readOf, ruleOf, longest}
+use Rattle.definitions.specs.Rule.{Rule, size}
+use Rattle.definitions.specs.Grammar.{Got, got, refused, then, readOf, parsed, uncycled, ruleOf, longest}
+use Rattle.definitions.specs.Paths.{gotoIn}
+use Rattle.definitions.specs.Cycles.{cycleOf}
+use Rattle.definitions.proofs.Cycled.{cycle-at}
 use Rattle.definitions.specs.Plan.{endOf}
 use Rattle.definitions.specs.Pages.{pagesFor, fileOf, unpacked}
 use Rattle.definitions.specs.Calls.{refusal, left, toRead, toWrite, replyIn, bytesIn, Wrote}
@@ -20,10 +23,11 @@ use Rattle.definitions.specs.declared.Reply.{Reply}
 use Rattle.definitions.specs.declared.Reply.the-variants.{Done, Refused}
 use Rattle.pages.proofs.Refusals.{refuses, refused-only}
 use Rattle.pages.proofs.Trip.{Bytes, write-read, read-write}
-use Rattle.rules.specs.Replies.{Make, OfRule, bad, short, done, OfFile, page, holds, ToRead, ToWrite, long, may}
+use Rattle.rules.specs.Replies.{Make, OfRule, bad, cycle, short, done, OfFile, page, holds, ToRead, ToWrite, long, may}
 use Rattle.readers.proofs.Sound.{sound-refused}
 use Rattle.readers.proofs.Accepted.{rule-sound}
 use Rattle.readers.proofs.Places.{through, rule-header}
+use Rattle.rules.proofs.Uncycled.{rule-parsed, rule-bad, rule-cycled}
 use Rattle.rules.proofs.FileLaws.{write-good}
 
 -- ---- reading, writing and compiling: each has one outcome
@@ -65,6 +69,27 @@ all-written what xs m old r new e l w =
     (d, rw (w .buffer, d, e) (take-append-seam xs _))
 
 -- ---- each reply is given exactly if its row holds
+
+-- bytes that are no rule: what is read first, or a cycle
+no-rule : (make : Make) (room : ℕ) (s : List ℕ) (k p : ℕ) → ruleOf s ≡ refused k p → OfRule make s room (refusal k p)
+unfolding ruleOf
+no-rule make room s k p e = go (parsed s) refl e
+  where
+    go : (g : Got Rule) → parsed s ≡ g → then g uncycled ≡ refused k p → OfRule make s room (refusal k p)
+    go (refused j q) i e =
+        let b = sound-refused _ _ _ _ (rule-sound s) j q i in
+        let f : refusal j q ≡ refusal k p = let z : j ≡ k = cc in let y : q ≡ p = cc in rw (z, y) in
+        let found : OfRule make s room (refusal j q) = bad i (b .0) (b .1) (b .2) in
+        rw f at found
+    go (got r n) i e = on (ltb (cycleOf (size r) (gotoIn r)) (size r)) refl e
+      where
+        on : (b : Bool) → ltb (cycleOf (size r) (gotoIn r)) (size r) ≡ b → cond b (refused 16 (cycleOf (size r) (gotoIn r))) (got r n) ≡ refused k p → OfRule make s room (refusal k p)
+        on true t e =
+            let f : refusal 16 (cycleOf (size r) (gotoIn r)) ≡ refusal k p = let z : 16 ≡ k = cc in let y : cycleOf (size r) (gotoIn r) ≡ p = cc in rw (← z, y) in
+            let found : OfRule make s room (refusal 16 (cycleOf (size r) (gotoIn r))) = cycle i (cycle-at (size r) (gotoIn r) (ltb-true (cycleOf (size r) (gotoIn r)) (size r) t)) in
+            rw f at found
+        on false t e = let z : _≡_ {A = ℕ} 0 1 = cc in absurd (omega arith)
+
 module _ (make : Make) (room : ℕ) where
   abbrev made : List ℕ → Got (List ℕ)
   made s = then (ruleOf s) (λ r n. got (make r s) n)
@@ -79,11 +104,12 @@ module _ (make : Make) (room : ℕ) where
 
       go : (g : Got Rule) → ruleOf s ≡ g → OfRule make s room (replyIn room (then g (λ r n. got (make r s) n)))
       go (got r n) e = sized r n e (ltb room (length (make r s))) refl
-      go (refused k p) e = let q = sound-refused _ _ _ _ (rule-sound s) k p e in bad e (q .0) (q .1) (q .2)
+      go (refused k p) e = no-rule make room s k p e
 
   only-rule : (s : List ℕ) (q : Reply) → OfRule make s room q → replyIn room (made s) ≡ q
   unfolding replyIn
-  only-rule s _ (bad e _ _ _) = rw e
+  only-rule s _ (bad {k} {p} e _ _ _) = rw (rule-bad s k p e)
+  only-rule s _ (cycle {r} {n} {b} e l) = rw (rule-cycled s r n b e l)
   only-rule s _ (short {r} e l) = rw (e, lt-ltb room (length (make r s)) l)
   only-rule s _ (done {r} e l) = rw (e, le-ltb room (length (make r s)) l)
 
@@ -159,7 +185,7 @@ module _ (s out : List ℕ) (n : ℕ) (out′ : List ℕ) (w : Wrote (toWrite s)
   pub written-holds : unpacked (take n out′) ≡ got s (pagesFor (length s))
   written-holds =
       let f : take n out′ ≡ fileOf s = done-bytes (toWrite s) out n out′ w ∙ written .bytes in
-      rw f (write-read s (omega (arith, rule-header s (written .rule) (endOf (toWrite s)) (written .is))) (written .brief))
+      rw f (write-read s (omega (arith, rule-header s (written .rule) (endOf (toWrite s)) (rule-parsed s (written .rule) (endOf (toWrite s)) (written .is)))) (written .brief))
 
   pub written-read : (b : List ℕ) (r : Reply) (b′ : List ℕ) → length s ≤ length b → Wrote (toRead (take n out′)) b r b′ → (r ≡ Done (length s)) × (take (length s) b′ ≡ s)
   unfolding toRead

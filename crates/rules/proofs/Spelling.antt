@@ -19,25 +19,26 @@ use Rattle.definitions.specs.declared.Reply.{Reply}
 use Rattle.definitions.specs.declared.Reply.the-variants.{Done}
 use Rattle.definitions.proofs.Faults.{run-tells}
 use Rattle.pages.proofs.Trip.{Bytes, read-write}
-use Rattle.rules.specs.Replies.{Make, OfRule, bad, short, done, OfFile, page, holds, ToWrite, long, may}
+use Rattle.rules.specs.Replies.{Make, OfRule, bad, cycle, short, done, OfFile, page, holds, ToWrite, long, may}
 use Rattle.rules.specs.Spelling.{Accepts}
-use Rattle.readers.proofs.Accepted.{rule-in, gotos-rise}
+use Rattle.readers.proofs.Accepted.{rule-in}
 use Rattle.readers.proofs.Places.{rule-blocks, rule-end, rule-header}
 use Rattle.readers.proofs.Spelt.{Spelt, spelt-whole}
 use Rattle.readers.proofs.SpeltRead.{rule-gives}
 use Rattle.readers.proofs.SpeltSmall.{rule-small}
 use Rattle.readers.proofs.ReadSpelt.{blocks-spelt}
+use Rattle.rules.proofs.Uncycled.{rule-parsed, rule-no-cycle, rule-whole}
 use Rattle.rules.proofs.Promises.{file-exactly, write-exactly}
 
 -- ---- what is read
 module _ (s : List ℕ) (r : Rule) (n : ℕ) (e : ruleOf s ≡ got r n) where
   module _ (small : Bytes s) where
     spelt : Every (BlockKeeps (size r) (r .variables)) (r .blocks) × Spelt s 4 (inTurn blockBytes (r .blocks)) n
-    spelt = blocks-spelt s small (r .variables) (size r) (size r) (r .blocks) n (rule-blocks s r n e)
+    spelt = blocks-spelt s small (r .variables) (size r) (size r) (r .blocks) n (rule-blocks s r n (rule-parsed s r n e))
 
     read-limits : Limits r
     read-limits =
-        let i = rule-in s r n e in
+        let i = rule-in s r n (rule-parsed s r n e) in
         record {
           form-is = i .form-is;
           variables-from = i .variables-from;
@@ -46,31 +47,31 @@ module _ (s : List ℕ) (r : Rule) (n : ℕ) (e : ruleOf s ≡ got r n) where
           blocks-from = i .blocks-from;
           blocks-to = i .blocks-to;
           blocks-keep = spelt .0;
-          gotos-rise = λ b t l h. gotos-rise s r n e b t h;
+          no-cycle = rule-no-cycle s r n e;
         }
 
     read-bytes : s ≡ bytesOf r
     unfolding bytesOf
     read-bytes =
-        let i = rule-in s r n e in
-        let l = rule-header s r n e in
-        let h : Spelt s 4 (inTurn blockBytes (r .blocks)) (length s) = rw (rule-end s r n e) at (spelt .1) in
+        let i = rule-in s r n (rule-parsed s r n e) in
+        let l = rule-header s r n (rule-parsed s r n e) in
+        let h : Spelt s 4 (inTurn blockBytes (r .blocks)) (length s) = rw (rule-end s r n (rule-parsed s r n e)) at (spelt .1) in
         spelt-whole s (bytesOf r) (omega arith, sym (i .form-stands), (omega arith, sym (i .variables-are), (omega arith, sym (i .arguments-are), (omega arith, sym (i .blocks-are), h))))
 
 -- ---- the theorem: accepted as r exactly if these are the bytes of r, and r keeps to the limits
 pub rule-exactly : (s : List ℕ) → Bytes s → (r : Rule) (n : ℕ) → (ruleOf s ≡ got r n) ↔ ((s ≡ bytesOf r) × Limits r × (n ≡ length s))
 rule-exactly s small r n = (
-  λ e. (read-bytes s r n e small, read-limits s r n e small, rule-end s r n e),
-  λ h. rw (h .2, h .0) (rule-gives r (h .1)),
+  λ e. (read-bytes s r n e small, read-limits s r n e small, rule-end s r n (rule-parsed s r n e)),
+  λ h. rw (h .2, h .0) (rule-whole (bytesOf r) r (length (bytesOf r)) (rule-gives r (h .1)) (h .1 .no-cycle)),
 )
 
 -- a tree is some rule's exactly if it keeps to the limits
 pub tree-exactly : (r : Rule) → Limits r ↔ ((s : List ℕ) × Bytes s × (ruleOf s ≡ got r (length s)))
-tree-exactly r = (λ l. (bytesOf r, rule-small r l, rule-gives r l), λ h. read-limits (h .0) r (length (h .0)) (h .2) (h .1))
+tree-exactly r = (λ l. (bytesOf r, rule-small r l, rule-whole (bytesOf r) r (length (bytesOf r)) (rule-gives r l) (l .no-cycle)), λ h. read-limits (h .0) r (length (h .0)) (h .2) (h .1))
 
 -- each string of bytes is the writing of one tree
 pub one-reading : (r r′ : Rule) → Limits r → Limits r′ → bytesOf r ≡ bytesOf r′ → r ≡ r′
-one-reading r r′ l l′ e = let p = rule-gives r l in let q = rule-gives r′ l′ in cc (ap ruleOf e)
+one-reading r r′ l l′ e = let p = rule-whole (bytesOf r) r (length (bytesOf r)) (rule-gives r l) (l .no-cycle) in let q = rule-whole (bytesOf r′) r′ (length (bytesOf r′)) (rule-gives r′ l′) (l′ .no-cycle) in cc (ap ruleOf e)
 
 -- each tree has one writing
 pub one-writing : (s s′ : List ℕ) → Bytes s → Bytes s′ → (r : Rule) (n n′ : ℕ) → ruleOf s ≡ got r n → ruleOf s′ ≡ got r n′ → s ≡ s′
@@ -84,6 +85,7 @@ row-tells s small r n e q rounds args = rw (read-bytes s r n e small) (run-tells
 module _ (make : Make) (s : List ℕ) (room n : ℕ) where
   rule-accepted : Bytes s → (q : Reply) → q ≡ Done n → OfRule make s room q → Accepts make s room n
   rule-accepted small q i (bad e _ _ _) = let z : _≡_ {A = ℕ} 0 1 = cc in absurd (omega arith)
+  rule-accepted small q i (cycle e l) = let z : _≡_ {A = ℕ} 0 1 = cc in absurd (omega arith)
   rule-accepted small q i (short e l) = let z : _≡_ {A = ℕ} 0 1 = cc in absurd (omega arith)
   rule-accepted small q i (done {r} e l) =
       let h = rule-exactly s small r _ .0 e in
@@ -93,7 +95,7 @@ module _ (make : Make) (s : List ℕ) (room n : ℕ) where
   accepted-rule : Accepts make s room n → OfRule make s room (Done n)
   accepted-rule a =
       let r = a .rule in
-      let e : ruleOf s ≡ got r (length (bytesOf r)) = rw (a .written) (rule-gives r (a .limits)) in
+      let e : ruleOf s ≡ got r (length (bytesOf r)) = rw (a .written) (rule-whole (bytesOf r) r (length (bytesOf r)) (rule-gives r (a .limits)) (a .limits .no-cycle)) in
       rw (a .size) (done e (omega (arith, a .size, a .fits)))
 
 -- writing: a rule that is not over-long, in its pages

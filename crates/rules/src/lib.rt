@@ -2,12 +2,33 @@
 use definitions::LONGEST;
 use definitions::Read;
 use definitions::Reply;
+use definitions::misread;
 use definitions::refuse;
+use orders::Cycle;
+ghost use mathlib.Core.Path.{_≡_};
 ghost use Prim.Native.Nat.{_≤_};
 ghost use lib.ListN.{length};
-ghost use Rattle.definitions.specs.Grammar.{longest};
+ghost use Rattle.definitions.specs.Grammar.{readOf, ruleOf, longest};
 ghost use Rattle.definitions.specs.Calls.{Wrote, toRead, toWrite};
 ghost use Rattle.rules.specs.Opened.{Opened};
+
+// Whether the bytes are a rule: read to their end, with no cycle of gotos.
+pub fn read_rule(s: &[u8]) -> Read
+    requires { ⌜ length (now s) ≤ longest ⌝ }
+    ensures { λ r. ⌜ r ≡ readOf (ruleOf (now (s .entry))) ⌝ }
+{
+    match readers::read_tree(s) {
+        Read::Refused(f) => Read::Refused(f),
+        Read::Next(n) => {
+            let gotos = flows::gotos_of(s);
+            let blocks = s[3] as usize;
+            match orders::first_cycle(blocks, &gotos) {
+                Cycle::None => Read::Next(n),
+                Cycle::At(b) => misread(16, b),
+            }
+        }
+    }
+}
 
 // The rule in a file, at the start of a buffer that any rule fits in: its length, or why there is none.
 pub fn open(file: &[u8], rule: &mut [u8]) -> Reply
@@ -18,7 +39,7 @@ pub fn open(file: &[u8], rule: &mut [u8]) -> Reply
         Reply::Refused(f) => Reply::Refused(f),
         Reply::Done(n) => {
             pages::unpack(file, rule);
-            match readers::read_rule(&rule[..n]) {
+            match read_rule(&rule[..n]) {
                 Read::Refused(f) => Reply::Refused(f),
                 Read::Next(_) => Reply::Done(n),
             }
@@ -51,7 +72,7 @@ pub fn write(rule: &[u8], out: &mut [u8]) -> Reply
     if LONGEST < n {
         return refuse(11, 0);
     }
-    match readers::read_rule(rule) {
+    match read_rule(rule) {
         Read::Refused(f) => Reply::Refused(f),
         Read::Next(_) => {
             let size = pages::file_size(n);

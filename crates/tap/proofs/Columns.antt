@@ -15,6 +15,7 @@ use Rattle.definitions.specs.declared.Reply.{Reply}
 use Rattle.definitions.specs.declared.Reply.the-variants.{Done}
 use Rattle.definitions.proofs.Counts.{count-le}
 use Rattle.readers.proofs.Accepted.{rule-in}
+use Rattle.rules.proofs.Uncycled.{rule-parsed}
 use Rattle.plans.specs.Accepted.{PlanOf}
 use Rattle.plans.proofs.Accepted.{is-plan}
 use Rattle.plans.proofs.Planned.{plan-exactly}
@@ -28,7 +29,7 @@ unfolding columnsReply Clear
 clear-columns plan e = rw e (go (planned plan) refl)
   where
     go : (p : Got Rule) → planned plan ≡ p → Clear (columnsReply p)
-    go (got r n) i = omega (arith, count-le (r .variables) (LC (flowOf r)), rule-in (carried plan) r n (is-plan plan r n .0 i .rule) .variables-to)
+    go (got r n) i = omega (arith, count-le (r .variables) (LC (flowOf r)), rule-in (carried plan) r n (rule-parsed (carried plan) r n (is-plan plan r n .0 i .rule)) .variables-to)
     go (refused k p) i = (omega arith, (omega arith, omega arith))
 
 module _ (plan : List ℕ) where

@@ -7,12 +7,14 @@ use mathlib.Core.Bool.{Bool, true, false, cond, not, _&&_}
 use mathlib.Core.List.{List, [], _∷_, _++_, append-assoc, append-nil}
 use lib.Dec.{ltb, eqb}
 use lib.ListN.{length, length-append, length-take, length-drop}
-use borrow.Author.Tests.{ltb-false}
+use borrow.Author.Tests.{ltb-true, ltb-false}
 use Rattle.definitions.specs.Rule.{Rule, size}
 use Rattle.definitions.specs.Values.{Word}
 use Rattle.definitions.specs.Direct.{State, goesOn, Round, jumped, finished, origin, walk, joined, advanceFrom, advance, afterFrom, after}
 use Rattle.definitions.specs.Batch.{Budgets, budgetOf, mapFrom, startAt, startsOf, statesOf, mostOf}
-use Rattle.definitions.specs.Grammar.{Got, got, refused, then, ruleOf, longest}
+use Rattle.definitions.specs.Grammar.{Got, got, refused, then, parsed, uncycled, ruleOf, mostBlocks, longest}
+use Rattle.definitions.specs.Paths.{gotoIn}
+use Rattle.definitions.specs.Cycles.{cycleOf}
 use Rattle.definitions.specs.Pages.{mostPages, pageSize, lengthIn, checkIn, checkOf, pageIn, payloadOf, lengthOk, fillerOk, sizeOk, pageAt, payloadTo, unpacked, fileOf}
 use Rattle.definitions.specs.Calls.{refusal, toRead, toWrite, toCompile, replyIn, Wrote, Batch, Ran, brought, mostBudget}
 use Rattle.definitions.specs.Finder.{mostRows}
@@ -26,7 +28,9 @@ use Rattle.readers.specs.Accepted.{RuleIn}
 use Rattle.readers.proofs.Sound.{Sound}
 use Rattle.readers.proofs.Accepted.{rule-sound, rule-in}
 use Rattle.readers.proofs.Places.{rule-header}
+use Rattle.rules.proofs.Uncycled.{rule-parsed}
 use Rattle.plans.proofs.Fields.{plan-length}
+use Rattle.plans.proofs.Ruling.{order-few}
 use Rattle.batches.specs.Replies.{Counted, forAll, forEach, UnderRule, misfit, high, highRow, shortOut, shortWork, done, ToRun, noPlan, under}
 use Rattle.batches.proofs.Budgets.{is-none, all-low}
 use Rattle.batches.proofs.Exactly.{run-exactly}
@@ -93,11 +97,16 @@ file-within file = go (sizeOk (length file)) refl
 of-rule :
     (s : List ℕ) (f : Rule → List ℕ) → length s ≤ 4160 → ((r : Rule) (n : ℕ) → ruleOf s ≡ got r n → length (f r) ≤ 8192)
     → Within 8192 (then (ruleOf s) (λ r n. got (f r) n))
-unfolding Within Sound
-of-rule s f short small = go (ruleOf s) refl (rule-sound s)
+unfolding Within Sound ruleOf
+of-rule s f short small = go (parsed s) refl (rule-sound s)
   where
-    go : (p : Got Rule) → ruleOf s ≡ p → Sound (RuleIn s) 3 (length s) p → Within 8192 (then p (λ r n. got (f r) n))
-    go (got r n) e h = small r n e
+    whole : (r : Rule) (n : ℕ) → parsed s ≡ got r n → size r ≤ mostBlocks → (b : Bool) → ltb (cycleOf (size r) (gotoIn r)) (size r) ≡ b
+        → Within 8192 (then (cond b (refused 16 (cycleOf (size r) (gotoIn r))) (got r n)) (λ r n. got (f r) n))
+    whole r n e l true t = (omega arith, (omega arith, omega (arith, ltb-true (cycleOf (size r) (gotoIn r)) (size r) t)))
+    whole r n e l false t = small r n (rw (e, t))
+
+    go : (p : Got Rule) → parsed s ≡ p → Sound (RuleIn s) 3 (length s) p → Within 8192 (then (then p uncycled) (λ r n. got (f r) n))
+    go (got r n) e h = whole r n e (h .2 .blocks-to) (ltb (cycleOf (size r) (gotoIn r)) (size r)) refl
     go (refused k p) e h = (omega arith, (omega arith, omega arith))
 
 of-file : (file : List ℕ) (f : List ℕ → Rule → List ℕ) → ((s : List ℕ) (r : Rule) (n : ℕ) → length s ≤ 4160 → ruleOf s ≡ got r n → length (f s r) ≤ 8192)
@@ -125,8 +134,9 @@ pub compile-within : (file : List ℕ) → Within 8192 (toCompile file)
 unfolding toCompile
 compile-within file =
     of-file file (λ s r. planOf r s) (λ s r n h e.
-    let few = rule-in s r n e .blocks-to in
-    omega (arith, plan-length (flowOf r) r s (rule-header s r n e)))
+    let i = rule-parsed s r n e in
+    let few = rule-in s r n i .blocks-to in
+    omega (arith, plan-length (flowOf r) r s (rule-header s r n i), order-few r))
 
 -- ---- the most rounds
 

@@ -27,10 +27,9 @@ returns : tie.Need-returns Inv-loop μ-loop
 unfolding readOf
 returns c = λ bs m e b h.
     let r = c .before .before in
-    let targets = r .before in
-    let l = targets .before .before in
+    let l = r .before .before in
     let a = l .before .before .args in
-    let f = blocks-refused (a .n) (a .v) (a .s .now) (l .loop .b) (l .loop .at) _ _ (omega arith) (targets .targets-of .ensures) (l .loop .inv .1) (told (r .read-block .ensures) (c .enum-told .given .1)) in
+    let f = blocks-refused (a .n) (a .v) (a .s .now) (l .loop .b) (l .loop .at) _ (omega arith) (l .loop .inv .1) (told (r .read-block .ensures) (c .enum-told .given .1)) in
     let q = sym f ∙ ap readOf e in
     let z : _≡_ {A = ℕ} 0 1 = cc in
     absurd (omega arith)
@@ -39,11 +38,10 @@ loop-again : tie.Need-loop-again Inv-loop μ-loop
 loop-again c =
     let n = c .before in
     let r = n .before .before in
-    let targets = r .before in
-    let l = targets .before .before in
+    let l = r .before .before in
     let a = l .before .before .args in (
       omega arith,
-      blocks-next (a .n) (a .v) (a .s .now) (l .loop .b) (l .loop .at) _ _ (targets .targets-of .ensures) (l .loop .inv .1) (told (r .read-block .ensures) (n .next .given .1)),
+      blocks-next (a .n) (a .v) (a .s .now) (l .loop .b) (l .loop .at) _ (l .loop .inv .1) (told (r .read-block .ensures) (n .next .given .1)),
       written-set _ _ _ _ _ _ (omega arith) (l .loop .inv .2) (next-place _ _ (l .loop .inv .1)),
     )
 
@@ -63,7 +61,6 @@ places-of-spec =
     (λ c. search needs)
     (λ c. search needs)
     (λ c. search needs)
-    (λ c κs. search needs)
     (λ c κs. search needs)
     (λ c. search needs)
     (λ c. search needs)

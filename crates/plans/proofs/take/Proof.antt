@@ -13,6 +13,9 @@ slice-reshare-prefix-read-rule c = let n = c .before in omega (arith, n .before 
 slice-aggregate-read-rule : tie.Need-slice-aggregate-read-rule
 slice-aggregate-read-rule c = let n = c .before .before in simp length-take (omega (arith, n .before .before .before .before .extract .ensures .short _ (n .n .given .1)))
 
+read-rule-requires : tie.Need-read-rule-requires
+read-rule-requires c κs = let n = c .before .before in simp length-take (omega (arith, n .before .before .before .before .extract .ensures .short _ (n .n .given .1)))
+
 slice-reshare-prefix-compiles-to : tie.Need-slice-reshare-prefix-compiles-to
 slice-reshare-prefix-compiles-to c = let n = c .before .before .before .before .before in omega (arith, n .before .before .before .before .extract .ensures .short _ (n .n .given .1))
 
@@ -54,7 +57,7 @@ take-spec =
     (λ c. search needs)
     slice-reshare-prefix-read-rule
     slice-aggregate-read-rule
-    (λ c κs. search needs)
+    read-rule-requires
     (λ c. search needs)
     (λ c. search needs)
     slice-reshare-prefix-compiles-to

@@ -1,4 +1,4 @@
--- `readers::read_header` meets its contract: the tests are those of the definition, in its order. Assumes nothing.
+-- `rules::read_header` meets its contract: the tests are those of the definition, in its order. Assumes nothing.
 use mathlib.Core.Path.{ap}
 use mathlib.Core.Bool.{not}
 use borrow.Author.Needs.{needs}

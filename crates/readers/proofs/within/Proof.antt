@@ -1,4 +1,4 @@
--- `readers::within` meets its contract: the tests are those of the definition. Assumes nothing.
+-- `rules::within` meets its contract: the tests are those of the definition. Assumes nothing.
 use borrow.Author.Tests.{le-leb, lt-leb}
 use Rattle.readers.proofs.within.Statement.{statement}
 use Rattle.readers.proofs.within.Tie as tie

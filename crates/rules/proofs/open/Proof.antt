@@ -25,6 +25,9 @@ slice-reshare-prefix-read-rule c = omega (arith, short (c .before .before .befor
 slice-aggregate-read-rule : tie.Need-slice-aggregate-read-rule
 slice-aggregate-read-rule c = simp length-take (omega (arith, short (c .before .before .before .before .before .before)))
 
+read-rule-requires : tie.Need-read-rule-requires
+read-rule-requires c κs = simp length-take (omega (arith, short (c .before .before .before .before .before .before)))
+
 returns : tie.Need-returns
 returns c = opened-not _ _ _ (told (c .before .before .before .scan .ensures) (c .before .f .given .1))
 
@@ -48,7 +51,7 @@ open-spec =
     unpack-requires
     slice-reshare-prefix-read-rule
     slice-aggregate-read-rule
-    (λ c κs. search needs)
+    read-rule-requires
     (λ c. search needs)
     (λ c. search needs)
     returns

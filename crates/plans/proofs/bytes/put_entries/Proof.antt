@@ -14,11 +14,11 @@ use Rattle.plans.proofs.bytes.put_entries.Statement.{statement}
 use Rattle.plans.proofs.bytes.put_entries.Tie as tie
 
 abbrev Inv-loop : tie.InvT-loop
-Inv-loop out₀ n places inputs outputs j b₀ out b =
-    (b ≤ n) × (length out ≡ length out₀) × ((r : Rule) (s : List ℕ) → Laid r s n places inputs outputs j → out ≡ over out₀ 6 (entriesTo (flowOf r) r s b))
+Inv-loop out₀ n head places inputs outputs j b₀ out b =
+    (b ≤ n) × (length out ≡ length out₀) × ((r : Rule) (s : List ℕ) → Laid r s n head places inputs outputs j → out ≡ over out₀ 6 (entriesTo (flowOf r) r s b))
 
 abbrev μ-loop : tie.MeasureT-loop
-μ-loop out₀ n places inputs outputs j b₀ out b = n - b
+μ-loop out₀ n head places inputs outputs j b₀ out b = n - b
 
 loop-holds : tie.Need-loop-holds Inv-loop μ-loop
 loop-holds c = (omega arith, refl, λ r s l. nothing (c .before .args .out .now) r s)
@@ -26,14 +26,14 @@ loop-holds c = (omega arith, refl, λ r s l. nothing (c .before .args .out .now)
 put-entry-requires : tie.Need-put-entry-requires Inv-loop μ-loop
 put-entry-requires c κs = omega arith
 
-add-offset : tie.Need-add-offset Inv-loop μ-loop
-add-offset c = omega (arith, c .before .before .before .before .pre .1 .1 (c .before .before .loop .b) (omega arith))
+sub-offset : tie.Need-sub-offset Inv-loop μ-loop
+sub-offset c = omega (arith, c .before .before .before .before .pre .1 .1 .1 (c .before .before .loop .b) (omega arith))
 
-add-offset-2 : tie.Need-add-offset-2 Inv-loop μ-loop
-add-offset-2 c = omega (arith, c .before .before .before .before .pre .1 .1 (c .before .before .loop .b) (omega arith))
+add-offset : tie.Need-add-offset Inv-loop μ-loop
+add-offset c = omega (arith, c .before .before .before .before .pre .1 .1 .1 (c .before .before .loop .b) (omega arith))
 
 cast-offset : tie.Need-cast-offset Inv-loop μ-loop
-cast-offset c = omega (arith, c .before .before .before .before .pre .1 .1 (c .before .before .loop .b) (omega arith))
+cast-offset c = omega (arith, c .before .before .before .before .pre .1 .1 .1 (c .before .before .loop .b) (omega arith))
 
 loop-again : tie.Need-loop-again Inv-loop μ-loop
 loop-again c =
@@ -41,7 +41,7 @@ loop-again c =
     let s = c .before .before .before .before .before .before .before .before .before .before .before in (
       omega arith,
       omega arith,
-      λ r bytes laid. one-entry laid (l .b) (omega arith) (s .pre .1 .1 (l .b) (omega arith) .0) (s .args .out .now) (l .out) _ (omega arith) (l .inv .2 r bytes laid) (c .before .before .put-entry .ensures),
+      λ r bytes laid. one-entry laid (l .b) (omega arith) (s .pre .1 .1 .1 (l .b) (omega arith) .0) (s .args .out .now) (l .out) _ (omega arith) (l .inv .2 r bytes laid) (c .before .before .put-entry .ensures),
     )
 
 same-length : tie.Need-same-length Inv-loop μ-loop
@@ -62,9 +62,8 @@ put-entries-spec =
     loop-holds
     (λ c. omega arith)
     (λ c. omega arith)
+    sub-offset
     add-offset
-    (λ c. omega arith)
-    add-offset-2
     cast-offset
     (λ c. omega arith)
     (λ c. omega arith)

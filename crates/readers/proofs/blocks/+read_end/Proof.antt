@@ -12,7 +12,7 @@ use Rattle.readers.proofs.blocks.read_end.Reads as read-end
 use Rattle.readers.proofs.blocks.read_end.Kinds as read-end-kinds
 use Rattle.readers.proofs.blocks.+read_end.Lts-read_end as end-lts
 use Rattle.definitions.proofs.misread.Reads as misread-reads
-use Rattle.readers.proofs.exprs.read_among.Reads as read-among-reads
+use Rattle.readers.proofs.exprs.read_below.Reads as read-below-reads
 use Rattle.readers.proofs.exprs.read_cond.Reads as read-cond-reads
 use Rattle.readers.proofs.exprs.read_tag.Reads as read-tag-reads
 use Rattle.readers.proofs.blocks.+read_end.{statement}
@@ -30,7 +30,7 @@ module _ (t : ℕ) where
   end-below = and 1 read-end-kinds.ps (falls 1 read-end-kinds.ps _<_ μ-end t) read-end.Pre
 
   abbrev end-calls : end-lts.Claims
-  end-calls = (read-tag-reads.Asked, read-tag-reads.Learnt, read-among-reads.Asked, read-among-reads.Learnt, read-cond-reads.Asked, read-cond-reads.Learnt, end-below, read-end.Post, misread-reads.Asked, misread-reads.Learnt)
+  end-calls = (read-tag-reads.Asked, read-tag-reads.Learnt, read-below-reads.Asked, read-below-reads.Learnt, read-cond-reads.Asked, read-cond-reads.Learnt, end-below, read-end.Post, misread-reads.Asked, misread-reads.Learnt)
 
   -- where the tag has been read
   end-tag :
@@ -45,10 +45,10 @@ module _ (t : ℕ) where
       end-none _ _ _ _ _ _ (told (e .before .before .read-tag .ensures) (e .e .given .1))
 
   end-2 : end-lts.Need-returns-2 end-calls end-at read-end.Post
-  end-2 c = end-goto _ _ _ _ _ _ _ (end-tag (c .before .before .before)) (c .before .match2 .keys1) (c .read-among .ensures)
+  end-2 c = end-goto _ _ _ _ _ _ _ (end-tag (c .before .before .before)) (c .before .match2 .keys1) (c .read-below .ensures)
 
   end-3 : end-lts.Need-returns-3 end-calls end-at read-end.Post
-  end-3 c = end-jump _ _ _ _ _ _ _ (end-tag (c .before .before .before)) (c .before .match2 .keys2) (c .read-among2 .ensures)
+  end-3 c = end-jump _ _ _ _ _ _ _ (end-tag (c .before .before .before)) (c .before .match2 .keys2) (c .read-below2 .ensures)
 
   end-4 : end-lts.Need-returns-4 end-calls end-at read-end.Post
   end-4 c = end-stop _ _ _ _ _ _ _ (end-tag (c .before .before)) (c .match2 .keys3) refl

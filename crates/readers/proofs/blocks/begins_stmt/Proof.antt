@@ -1,4 +1,4 @@
--- `readers::blocks::begins_stmt` meets its contract: the tests are on the byte, and past the end there is none. Assumes nothing.
+-- `rules::blocks::begins_stmt` meets its contract: the tests are on the byte, and past the end there is none. Assumes nothing.
 use Prim.Native.Nat.{ℕ}
 use mathlib.Core.Path.{_≡_, refl}
 use mathlib.Core.Bool.{Bool, true, false, cond}

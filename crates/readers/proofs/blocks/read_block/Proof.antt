@@ -1,4 +1,4 @@
--- `readers::blocks::read_block` meets its contract. The loop's invariant: the answer is that of the block from `next` on.
+-- `rules::blocks::read_block` meets its contract. The loop's invariant: the answer is that of the block from `next` on.
 -- The measure is what is left of the bytes, of which each statement takes some. Assumes nothing.
 use Prim.Native.Nat.{_-_}
 use mathlib.Core.Path.{_≡_, refl, sym, _∙_}

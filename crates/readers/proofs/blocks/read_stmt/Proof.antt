@@ -1,4 +1,4 @@
--- `readers::blocks::read_stmt` meets its contract: each return is a law of `BlockLaws.antt` at what the tag and the callees say. Assumes nothing.
+-- `rules::blocks::read_stmt` meets its contract: each return is a law of `BlockLaws.antt` at what the tag and the callees say. Assumes nothing.
 use native.Mathlib.Omega.{arith}
 use borrow.Author.Needs.{needs}
 use Rattle.readers.proofs.Laws.{told, goes, stays, tagged}

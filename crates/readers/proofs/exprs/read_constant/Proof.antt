@@ -1,4 +1,4 @@
--- `readers::exprs::read_constant` meets its contract: the tests say whether four bytes are there, with no sum that could wrap. Assumes nothing.
+-- `rules::exprs::read_constant` meets its contract: the tests say whether four bytes are there, with no sum that could wrap. Assumes nothing.
 use Prim.Native.Nat.{ℕ, _+_, _-_, _≤_, _<_}
 use native.Mathlib.Omega.{arith}
 use mathlib.Core.Logic.{⊎-elim}

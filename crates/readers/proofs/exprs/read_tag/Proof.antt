@@ -1,4 +1,4 @@
--- `readers::exprs::read_tag` meets its contract: the tests are those of the definition, in its order. Assumes nothing.
+-- `rules::exprs::read_tag` meets its contract: the tests are those of the definition, in its order. Assumes nothing.
 use borrow.Author.Needs.{needs}
 use borrow.Author.Tests.{lt-ltb, le-ltb, eq-eqb, ne-eqb}
 use Rattle.readers.specs.Readings.{dueOf}

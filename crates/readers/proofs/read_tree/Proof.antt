@@ -1,11 +1,11 @@
--- `readers::read_rule` meets its contract: each return is a law of `RuleLaws.antt` at what the callees and the last test say. Assumes nothing.
+-- `readers::read_tree` meets its contract: each return is a law of `RuleLaws.antt` at what the callees and the last test say. Assumes nothing.
 use native.Mathlib.Omega.{arith}
 use mathlib.Core.Path.{_∙_}
 use borrow.Author.Needs.{needs}
 use Rattle.readers.proofs.Laws.{told}
 use Rattle.readers.proofs.RuleLaws.{header-there, rule-headless, rule-refused, rule-longer, rule-whole}
-use Rattle.readers.proofs.read_rule.Statement.{statement}
-use Rattle.readers.proofs.read_rule.Tie as tie
+use Rattle.readers.proofs.read_tree.Statement.{statement}
+use Rattle.readers.proofs.read_tree.Tie as tie
 
 read-variables : tie.Need-shared-slice-read-read-blocks
 read-variables c =
@@ -46,7 +46,7 @@ returns-4 c =
     let head = all .before .before .before in
     rule-whole _ _ (told (head .before .before .read-header .ensures) (head .enum-told .given .1)) _ (told (all .read-blocks .ensures) (n .n .given .1)) (c .if1 .left)
 
-pub read-rule-spec : {M : Type 1} → statement M
-read-rule-spec =
+pub read-tree-spec : {M : Type 1} → statement M
+read-tree-spec =
     tie.close
     (tie.spec (λ c κs. search needs) (λ c. search needs) (λ c. search needs) read-variables read-blocks (λ c κs. search needs) (λ c. search needs) (λ c. search needs) (λ c κs. search needs) returns returns-2 returns-3 returns-4)
