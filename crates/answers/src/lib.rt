@@ -1,4 +1,6 @@
 // What the program prints: for a file and an input, the text of the batch's result or of a refusal.
+#![tactic(auto)]
+
 mod files;
 
 ghost use Rattle.std.specs.Prelude.{◌≡◌, ◌+◌, ◌*◌, ◌≤◌, length, take};

@@ -1,4 +1,6 @@
 // The public run of a batch: the plan, the tests, then the rows.
+#![tactic(auto)]
+
 ghost use Rattle.std.specs.Prelude.{◌≡◌, ◌≤◌, length};
 ghost use Rattle.definitions.specs.Grammar.{most_variables};
 ghost use Rattle.definitions.specs.Batch.{common, each, line_size};

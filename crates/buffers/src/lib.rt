@@ -1,4 +1,6 @@
 // Writes into a caller's buffer, and the reading of a little-endian number.
+#![tactic(auto)]
+
 ghost use Rattle.std.specs.Prelude.{◌≡◌, ◌+◌, ◌<◌, ◌≤◌, pos, length, replicate};
 ghost use Rattle.definitions.specs.Plan.{le16};
 ghost use Rattle.definitions.specs.Pages.{word_at};

@@ -1,4 +1,6 @@
 // One row carried on, round by round.
+#![tactic(auto)]
+
 ghost use Rattle.std.specs.Prelude.{◌≤◌, length, take};
 ghost use Rattle.definitions.specs.Direct.{after};
 ghost use Rattle.columns.specs.Proper.{Proper};

@@ -1,5 +1,7 @@
 // The input and output columns of a rule's blocks, each variable by itself: the blocks that need it are the smallest set that is closed
 // backwards under edges. Also a mask's bits, and a column's place in a line.
+#![tactic(auto)]
+
 ghost use Rattle.std.specs.Prelude.{◌≡◌, not, cond, ◌&&◌, ◌||◌, ℕ, ◌+◌, ◌≤◌, ◌<◌, get_or, eqb};
 ghost use Rattle.definitions.specs.Grammar.{most_variables, most_blocks};
 ghost use Rattle.definitions.specs.Columns.{Flow, some, among};

@@ -20,7 +20,7 @@ pub data GotoPath (n : ℕ) (edge : ℕ → ℕ → Bool) : ℕ → ℕ → Type
   more : {b c t : ℕ} → Step n edge b c → GotoPath n edge c t → GotoPath n edge b t
 
 -- how many blocks it visits, each time counted
-unfoldable pub visits : {n b t : ℕ} {edge : ℕ → ℕ → Bool} → GotoPath n edge b t → ℕ
+unfoldable pub visits : {n : ℕ} {edge : ℕ → ℕ → Bool} {b t : ℕ} → GotoPath n edge b t → ℕ
 visits (one s) = 2
 visits (more s p) = suc (visits p)
 

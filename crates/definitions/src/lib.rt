@@ -1,4 +1,6 @@
 // The answers of the calls, and the limits. What each case stands for is said in specs/.
+#![tactic(auto)]
+
 ghost use Rattle.std.specs.Prelude.{◌≡◌};
 ghost use Rattle.definitions.specs.Values.{kind_number};
 ghost use Rattle.definitions.specs.Grammar.{misread};

@@ -1,4 +1,6 @@
 // The program's answers at its edges. tools/edge_cases.py makes the files in data/ and the expected answers, from the calls below.
+#![tactic(auto)]
+
 
 // The answer to one file of data/ by the rule in another.
 fn case(pages: &[u8], batch: &[u8]) {

@@ -1,4 +1,6 @@
 // Expressions and conditions, worked out from a rule's bytes. Each is called only where the grammar accepts what stands there.
+#![tactic(auto)]
+
 pub mod tokens;
 
 ghost use Rattle.std.specs.Prelude.{◌≡◌, ℕ, ◌+◌, ◌≤◌, ◌<◌, pos, length, get_or};

@@ -1,4 +1,6 @@
 // The finder: where a row stands in the caller's two buffers.
+#![tactic(auto)]
+
 ghost use Rattle.std.specs.Prelude.{◌≡◌, ◌≤◌, ◌<◌};
 ghost use Rattle.definitions.specs.Batch.{line_size};
 ghost use Rattle.definitions.specs.Finder.{is_number, is_line, line_index, found_in, most_rows, most_columns};

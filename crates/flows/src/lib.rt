@@ -1,4 +1,6 @@
 // What each block of a rule reads, sets and names, and where it stands. A block's tags, read one after the other with no regard to what holds what, tell it.
+#![tactic(auto)]
+
 ghost use Rattle.std.specs.Prelude.{◌≡◌, true, false, ◌&&◌, ◌||◌, ℕ, ◌+◌, ◌<◌, ◌≤◌, eqb, get_or, List};
 ghost use Rattle.definitions.specs.Rule.{Block, Rule, size};
 ghost use Rattle.definitions.specs.Grammar.{got, most_variables, most_blocks, blocks_to, parsed, longest};

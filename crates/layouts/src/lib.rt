@@ -1,4 +1,6 @@
 // How a batch lies in its two buffers: the one reader and the one writer of a record and of a line.
+#![tactic(auto)]
+
 ghost use Rattle.std.specs.Prelude.{◌≡◌, true, ◌∷◌, ◌++◌, ◌+◌, ◌-◌, ◌*◌, ◌≤◌, ◌<◌, pos, nat_abs, length, get_or, take, drop, replicate};
 ghost use Rattle.std.specs.Int.Signed.{non_neg};
 ghost use Rattle.buffers.specs.Words.{over};

@@ -1,5 +1,7 @@
 // Gotos between blocks in any order: the lowest block on a cycle, the order of evaluation, and whether some goto goes back.
 // Row b, column t of a table says that block b has a goto to t.
+#![tactic(auto)]
+
 ghost use Rattle.std.specs.Prelude.{◌≡◌, true, ◌↔◌, ℕ, ◌≤◌, ◌<◌, take};
 ghost use Rattle.definitions.specs.Grammar.{most_blocks};
 ghost use Rattle.definitions.specs.Columns.{some, among};

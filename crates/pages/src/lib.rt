@@ -1,4 +1,6 @@
 // A rule's bytes to a file of pages, and back.
+#![tactic(auto)]
+
 ghost use Rattle.std.specs.Prelude.{◌≡◌, ◌+◌, ◌*◌, ◌<◌, ◌≤◌, ◌++◌, length, drop};
 ghost use Rattle.definitions.specs.Pages.{most_pages, page_size, payload_room, check_place, length_in, check_of, page_of, pages_for, piece_of, file_of, page_in, payload_of, filler_ok, length_ok, size_ok, page_at, payload_to, unpacked};
 ghost use Rattle.definitions.specs.Grammar.{longest};

@@ -1,4 +1,6 @@
 // A rule's plan: the compiler, and whether bytes are a plan.
+#![tactic(auto)]
+
 mod bytes;
 
 ghost use Rattle.std.specs.Prelude.{◌≡◌, ℕ, ◌≤◌, length};

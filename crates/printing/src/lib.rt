@@ -1,4 +1,6 @@
 // The text of a batch's result and of a refusal. Each writer puts a text into out from index at on, and answers the index after it.
+#![tactic(auto)]
+
 ghost use Rattle.std.specs.Prelude.{◌≡◌, ◌+◌, ◌*◌, ◌≤◌, ◌<◌, ◌++◌, nat_abs, length, take};
 ghost use Rattle.definitions.specs.Finder.{most_rows, most_quota};
 ghost use Rattle.io.specs.Counts.{IsPrefixLen};

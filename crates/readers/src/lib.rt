@@ -1,4 +1,6 @@
 // The readers of a rule's bytes: whether a rule stands there, or what is wrong with it first.
+#![tactic(auto)]
+
 pub mod blocks;
 pub mod exprs;
 

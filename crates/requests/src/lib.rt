@@ -1,4 +1,6 @@
 // The requests of the conformance vectors: each is read from standard input and handed to the library, and its answer is printed.
+#![tactic(auto)]
+
 mod bytes;
 mod finds;
 mod input;

@@ -1,4 +1,6 @@
 // One round of a row, from a block on along gotos, on the columns of its plan.
+#![tactic(auto)]
+
 mod blocks;
 
 ghost use Rattle.std.specs.Prelude.{◌≡◌, ◌≤◌, ◌<◌, length};

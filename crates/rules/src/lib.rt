@@ -1,4 +1,6 @@
 // Rule files: a file's rule into the caller's buffer, and a rule's file.
+#![tactic(auto)]
+
 ghost use Rattle.std.specs.Prelude.{◌≡◌, ◌≤◌, length};
 ghost use Rattle.definitions.specs.Grammar.{read_of, rule_of, longest};
 ghost use Rattle.definitions.specs.Calls.{Wrote, to_read, to_write};

@@ -1,4 +1,6 @@
 // The LOOP table: every unfinished row carried on by rounds, its line moved up in place.
+#![tactic(auto)]
+
 ghost use Rattle.std.specs.Prelude.{◌≤◌, length, ◌≡◌};
 ghost use Rattle.definitions.specs.Direct.{after};
 ghost use Rattle.definitions.specs.Batch.{budget_of};

@@ -1,4 +1,6 @@
 // The calls, exported for C and Rust. A slice passes as a pointer and a length; what an answer's 64 bits hold is said in specs/.
+#![tactic(auto)]
+
 ghost use Rattle.std.specs.Prelude.{◌≡◌, ◌<◌};
 ghost use Rattle.definitions.specs.Plan.{planned};
 ghost use Rattle.definitions.specs.Batch.{common, each};

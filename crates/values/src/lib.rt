@@ -1,4 +1,6 @@
 // The operators and comparisons of 32-bit signed values. An operator gives its exact result, or the kind of the fault that stands in its place.
+#![tactic(auto)]
+
 ghost use Rattle.std.specs.Prelude.{◌≡◌, ◌+◌, ◌≤◌, length};
 ghost use Rattle.definitions.specs.Values.{outcome_of, settled, negation, sum, difference, product, quotient, remainder, is_less, is_equal};
 ghost use Rattle.definitions.specs.Meaning.{applied, compared, decided};
