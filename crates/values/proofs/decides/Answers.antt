@@ -1,0 +1,12 @@
+-- `values::decides` meets its contract.
+use borrow.Author.Tests.{ne_eqb}
+use Rattle.values.specs.Tags.{joint_of}
+use Rattle.values.proofs.decides.Goals as goal
+
+pub returns-in-19 : goal.returns-in-19
+unfolding joint_of
+returns-in-19 c = rw c.in-19.is
+
+pub returns-in_default : goal.returns-in_default
+unfolding joint_of
+returns-in_default c = simp (ne_eqb _ _ c.in_default.in_default-own.rest.1)
