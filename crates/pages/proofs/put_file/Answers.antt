@@ -1,0 +1,29 @@
+-- `pages::put_file` meets its contract: after k turns the first k pages are written.
+use Rattle.std.proofs.Common.{refl, ◌∙◌, arith, rules}
+use Rattle.pages.proofs.Writing.{part_le, pages-none, page-more, file_law}
+use Rattle.pages.proofs.put_file.Goals as goal
+
+pub loop-k-init : goal.loop-k-init
+loop-k-init c =
+    let a = c.args in
+    (search rules, (refl, pages-none a.rule.now a.out.now))
+
+pub page_of-p-requires : goal.page_of-p-requires
+page_of-p-requires c =
+    part_le c.args.rule.now c.piece-part.result.now c.loop-k.k c.piece-part.ensures
+
+pub loop-k-preserved : goal.loop-k-preserved
+loop-k-preserved c =
+    let a = c.args in (
+      omega arith,
+      (
+        c.copy_bytes_at.auto.dst ∙ c.loop-k.invariant.1.0,
+        page-more a.rule.now a.out.now c.loop-k.out c.copy_bytes_at.new.dst _ c.piece-part.result.now c.loop-k.k c.piece-part.ensures c.page_of-p.ensures (omega arith) c.loop-k.invariant.1.1 c.copy_bytes_at.ensures,
+      ),
+    )
+
+pub returns : goal.returns
+returns c =
+    let l = c.loop-k in
+    let a = c.args in
+    file_law a.rule.now a.out.now l.out l.k (omega arith) l.invariant.1.1
