@@ -9,7 +9,7 @@ use mathlib.Core.List.{List}
 use lib.Dec.{ltb}
 use lib.ListN.{length, get_or}
 use Rattle.definitions.specs.Rule.{Expr, Cond, End, Const, Var, Neg, Op, Case, Compare, Not, Join, Goto, Jump, If}
-use Rattle.definitions.specs.Grammar.{Got, got, refused, then, one, two, constant_at, variable_at, target_at, expr_at, cond_at, end_at, expr_body, cond_body, end_body, depth}
+use Rattle.definitions.specs.Grammar.{Got, got, refused, then, two, constant_at, variable_at, target_at, expr_at, cond_at, end_at, expr_body, cond_body, end_body, depth}
 use Rattle.definitions.specs.Grammar.{ExprTag, const_tag, var_tag, neg_tag, case_tag, bad_expr, op_tag, expr_tag}
 use Rattle.definitions.specs.Grammar.{CondTag, not_tag, bad_cond, compare_tag, join_tag, cond_tag, EndTag, goto_tag, jump_tag, stop_tag, if_tag, bad_end, end_tag}
 use Rattle.evaluators.specs.Skip.{Token, token, end_token, cond_token, expr_token, token_of, pass, past}
