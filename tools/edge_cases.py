@@ -155,7 +155,7 @@ def lines(file, data):
 
 def main():
     crate = Path(sys.argv[1])
-    cases = re.findall(r'case\(b"(\w+)\.pages", b"(\w+)\.batch"\)', (crate / "src/main.rt").read_text())
+    cases = re.findall(r'case\(rt, "(\w+)\.pages", "(\w+)\.batch"\)', (crate / "src/main.rt").read_text())
     data = crate / "data"
     data.mkdir(exist_ok=True)
     for name, made in PAGES.items():
