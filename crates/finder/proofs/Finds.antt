@@ -28,7 +28,7 @@ bits-number (negsuc a) n h l = ne_eqb (2 ^ 32 - suc a) n (λ (e : 2 ^ 32 - suc a
 
 -- what a test of a word that was read from a buffer says
 pub read_number : (x : Word) (n : ℕ) (r : Bool) → mag x < 2 ^ 31 → r ≡ is_number (to_z w32 (of_z w32 x)) n → r ≡ is_number x n
-read_number x n r h e = e ∙ ap (λ (z : Word). is_number z n) (to_z-of_z (record { sfits = h }))
+read_number x n r h e = e ∙ ap (λ (z : Word). is_number z n) (to_z-of_z {w = w32} (record { sfits = h }))
 
 -- a part, as the borrow checker has it
 pub part_at : (s : Bor (List Word)) (a w : ℕ) → ◌≡◌ {A = Part} ((s.ref_ptr.0, a * 4 + s.ref_ptr.1), take (a + w - a) (drop a s.now)) (part_of s a w)
