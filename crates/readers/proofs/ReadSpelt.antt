@@ -14,7 +14,6 @@ use Rattle.definitions.specs.Grammar.{ExprTag, const_tag, var_tag, neg_tag, case
 use Rattle.definitions.specs.Grammar.{end_body, end_at, depth, levels, set_at, emit_at, with_first, block_body, block_from, block_at, blocks_to}
 use Rattle.definitions.specs.Spelling.{constant_bytes, le32, operator_byte, relation_byte, joint_byte, expr_bytes, cond_bytes, stmt_bytes, end_bytes, in_turn, block_bytes}
 use Rattle.definitions.specs.Limits.{expr_depth, cond_depth, end_depth, InRange, ExprKeeps, CondKeeps, StmtKeeps, EndKeeps, Every, BlockKeeps}
-use Rattle.definitions.proofs.Tests.{and_parts}
 use Rattle.pages.proofs.Trip.{Bytes}
 use Rattle.readers.specs.Readings.{is_stmt, begins}
 use Rattle.readers.proofs.BlockLaws.{begins-there}

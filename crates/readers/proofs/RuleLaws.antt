@@ -10,7 +10,7 @@ use lib.Dec.{ltb, leb, eqb}
 use lib.ListN.{length}
 use borrow.Author.Tests.{ltb-false, lt-ltb, le-ltb}
 use Rattle.definitions.specs.Rule.{Block}
-use Rattle.definitions.specs.Grammar.{Got, got, refused, then, read_of, one, between, block_at, blocks_to, form_in, variables_in, arguments_in, blocks_in, headed, whole_rule, parsed}
+use Rattle.definitions.specs.Grammar.{Got, got, refused, then, read_of, between, block_at, blocks_to, form_in, variables_in, arguments_in, blocks_in, headed, whole_rule, parsed}
 use Rattle.definitions.specs.declared.Refusal.{Refusal}
 use Rattle.definitions.specs.declared.Read.{Read}
 use Rattle.definitions.specs.declared.Read.TheVariants.{Next, Refused}

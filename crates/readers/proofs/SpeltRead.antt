@@ -1,21 +1,19 @@
 -- What is spelt is read: wherever the bytes of a tree that keeps to the limits are spelt, the reader gives that tree. Assumes nothing.
 use Prim.Native.Nat.{ℕ, zero, suc, ◌+◌, ◌-◌, ◌≤◌, ◌<◌}
 use native.Mathlib.Omega.{arith}
-use mathlib.Core.Path.{◌≡◌, refl, ap, ◌∙◌}
+use mathlib.Core.Path.{◌≡◌, ap, ◌∙◌}
 use mathlib.Core.Bool.{Bool, true, cond}
 use mathlib.Core.List.{List, [], ◌∷◌, ◌++◌, append_assoc}
-use lib.Dec.{ltb, leb}
+use lib.Dec.{ltb}
 use lib.IntN.{ℤ}
 use lib.ListN.{length, get_or, take}
 use lib.Seq.{take-suc, take-length}
-use borrow.Author.Tests.{lt-ltb, le-ltb, le-leb, eq-eqb, ne_eqb}
+use borrow.Author.Tests.{lt-ltb, le-ltb, le-leb, ne_eqb}
 use Rattle.definitions.specs.Rule.{Expr, Cond, Const, Var, Neg, Op, Case, Compare, Not, Join, Stmt, Set, Emit, End, Goto, Jump, Stop, If, Block, Rule, size, block_of}
-use Rattle.definitions.specs.Columns.{goes_to}
 use Rattle.definitions.specs.Grammar.{Got, got, refused, then, byte_at, one, two, constant_at, variable_at, target_at, twos, expr_at, cond_at, expr_body, cond_body, expr_tag, cond_tag}
 use Rattle.definitions.specs.Grammar.{ExprTag, const_tag, var_tag, neg_tag, case_tag, op_tag, CondTag, not_tag, compare_tag, join_tag, no_stmt, stmt_tag, EndTag, goto_tag, jump_tag, stop_tag, if_tag, end_tag, end_body, end_at, depth, levels, block_body, block_at, blocks_to, with_first, headed, parsed}
 use Rattle.definitions.specs.Spelling.{constant_bytes, unsigned, expr_bytes, cond_bytes, stmt_bytes, end_bytes, in_turn, block_bytes, bytes_of}
 use Rattle.definitions.specs.Limits.{expr_depth, cond_depth, end_depth, InRange, ExprKeeps, CondKeeps, StmtKeeps, EndKeeps, Every, BlockKeeps, Limits}
-use Rattle.definitions.proofs.Tests.{or_left, or_right, and_both}
 use Rattle.readers.specs.Readings.{tag_at}
 use Rattle.readers.specs.Accepted.{no_block}
 use Rattle.readers.proofs.Laws.{expr_level, cond-level}
