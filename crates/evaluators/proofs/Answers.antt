@@ -1,4 +1,4 @@
--- What an evaluator's answer says of what stands at its place. Assumes nothing.
+-- What an evaluator's answer says of what stands at its place.
 use Prim.Native.Nat.{ℕ, ◌+◌, ◌<◌}
 use native.Mathlib.Omega.{arith}
 use mir.Syntax.{w32}

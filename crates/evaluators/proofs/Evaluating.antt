@@ -1,4 +1,4 @@
--- Each step of the evaluators: what stands after a tag, and what is answered there. Assumes nothing.
+-- Each step of the evaluators: what stands after a tag, and what is answered there.
 use Prim.Native.Nat.{ℕ, zero, suc, ◌+◌, ◌-◌, ◌<◌, ◌≤◌}
 use native.Mathlib.Numerals.{sub-one}
 use native.Mathlib.Omega.{arith}

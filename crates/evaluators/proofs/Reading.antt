@@ -1,4 +1,4 @@
--- What is known of a reading that finds something: of each of its parts. Assumes nothing.
+-- What is known of a reading that finds something: of each of its parts.
 use Prim.Native.Nat.{ℕ, ◌+◌, ◌<◌, ◌≤◌}
 use native.Mathlib.Omega.{arith}
 use borrow.Author.Tests.{ltb-true, leb-true}

@@ -1,4 +1,4 @@
--- What is read ends where its bytes end: its place, and its size further on. Assumes nothing.
+-- What is read ends where its bytes end: its place, and its size further on.
 use Prim.Native.Nat.{ℕ, zero, suc, ◌+◌}
 use native.Mathlib.Omega.{arith}
 use mathlib.Core.Path.{◌≡◌, sym, ap, ◌∙◌}

@@ -1,4 +1,4 @@
--- What is passed over ends where the reading of it ends. Assumes nothing.
+-- What is passed over ends where the reading of it ends.
 use Prim.Native.Nat.{ℕ, zero, suc, ◌+◌, ◌-◌, ◌<◌, ◌≤◌}
 use native.Mathlib.Omega.{arith}
 use native.Mathlib.Decide.{dec_lt}

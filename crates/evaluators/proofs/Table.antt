@@ -1,4 +1,4 @@
--- The token of each tag of a range, from a test that is computed over the range. Assumes nothing.
+-- The token of each tag of a range, from a test that is computed over the range.
 use Prim.Native.Nat.{ℕ, zero, suc, ◌<◌, ◌≤◌}
 use native.Mathlib.Omega.{arith}
 use native.Mathlib.Decide.{dec_lt}

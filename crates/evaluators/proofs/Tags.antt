@@ -1,4 +1,4 @@
--- Outside its range no tag is an expression's, a condition's or an ending's. Assumes nothing.
+-- Outside its range no tag is an expression's, a condition's or an ending's.
 use Prim.Native.Nat.{ℕ, ◌≤◌}
 use native.Mathlib.Omega.{arith}
 use borrow.Author.Tests.{ne_eqb}

@@ -1,4 +1,4 @@
--- The evaluators' answers, as the definitions have them. Assumes nothing: these are definitions.
+-- The evaluators' answers, as the definitions have them.
 use Rattle.std.specs.Prelude.{ℕ, ◌+◌, ◌≤◌, ◌≡◌, length, Bool, cond, List}
 use Rattle.definitions.specs.Values.{Word, Val, as_word, values_in, Out, value, fault, also}
 use Rattle.definitions.specs.Rule.{Expr, Cond, Case}

@@ -1,4 +1,4 @@
--- Passing over what stands at a place, token by token, without reading it as a tree. Assumes nothing: these are definitions.
+-- Passing over what stands at a place, token by token, without reading it as a tree.
 use Rattle.std.specs.Prelude.{ℕ, zero, suc, ◌+◌, cond, List, ltb, length, get_or}
 use Rattle.definitions.specs.Grammar.{ExprTag, const_tag, var_tag, neg_tag, case_tag, bad_expr, op_tag, expr_tag}
 use Rattle.definitions.specs.Grammar.{CondTag, not_tag, bad_cond, compare_tag, join_tag, cond_tag, EndTag, goto_tag, jump_tag, stop_tag, if_tag, bad_end, end_tag}

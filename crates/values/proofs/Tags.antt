@@ -1,4 +1,4 @@
--- The grammar reads a tag as what `specs/Tags.antt` says it names. Assumes nothing.
+-- The grammar reads a tag as what `specs/Tags.antt` says it names.
 use mathlib.Core.Path.{◌≡◌, refl, subst}
 use mathlib.Core.Bool.{Bool, true, false}
 use Prim.Native.Nat.{ℕ, zero, suc, ◌+◌, ◌≤◌}

@@ -1,5 +1,6 @@
 -- `values::decides` meets its contract.
 use borrow.Author.Tests.{ne_eqb}
+use native.Mathlib.Omega.{arith}
 use Rattle.values.specs.Tags.{joint_of}
 use Rattle.values.proofs.decides.Goals as goal
 
@@ -9,4 +10,4 @@ returns-in-19 c = rw c.in-19.is
 
 pub returns-in_default : goal.returns-in_default
 unfolding joint_of
-returns-in_default c = simp (ne_eqb _ _ c.in_default.in_default-own.rest.1)
+returns-in_default c = simp (ne_eqb c.args.tag 19 (λ e. omega arith))

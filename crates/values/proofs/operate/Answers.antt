@@ -2,6 +2,7 @@
 use mathlib.Core.Path.{◌∙◌}
 use borrow.Author.Rules.{rules}
 use borrow.Author.Tests.{ne_eqb}
+use native.Mathlib.Omega.{arith}
 use Rattle.values.specs.Tags.{operator_of}
 use Rattle.values.proofs.operate.Goals as goal
 
@@ -24,5 +25,5 @@ returns-in-7 c = c.divide.ensures ∙ rw c.in-7.is (search rules)
 pub returns-in_default : goal.returns-in_default
 unfolding operator_of
 returns-in_default c =
-    let w = c.in_default.in_default-own.rest in
-    c.remainder.ensures ∙ simp (ne_eqb _ _ w.0.0.0.1, ne_eqb _ _ w.0.0.1, ne_eqb _ _ w.0.1, ne_eqb _ _ w.1) (search rules)
+    let tag = c.args.tag in
+    c.remainder.ensures ∙ simp (ne_eqb tag 4 (λ e. omega arith), ne_eqb tag 5 (λ e. omega arith), ne_eqb tag 6 (λ e. omega arith), ne_eqb tag 7 (λ e. omega arith)) (search rules)
