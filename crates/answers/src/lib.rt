@@ -10,13 +10,16 @@ ghost use Rattle.printing.specs.Text.{text_room};
 ghost use Rattle.answers.specs.Answer.{number_in, words_in, no_batch, most_input, batch_in, input_answer, batch_answer, answer_to};
 
 use definitions::{LONGEST_PLAN, ROWS, Reply, VARIABLES};
-pub use files::print;
+pub use files::{open, print};
 use layouts::{MOST_LINES, MOST_RECORDS};
 
 // The most values of a batch, and the most bytes of an input that holds one.
 const MOST_VALUES: usize = ROWS * VARIABLES;
 
 const MOST_INPUT: usize = 12 + 4 * MOST_VALUES;
+
+// Room for the text of every answer.
+const TEXT_ROOM: usize = 65536;
 
 // The number in the four bytes at `at`.
 fn number(input: &[u8], at: usize) -> usize

@@ -1,5 +1,8 @@
+// Answers the requests of standard input.
 #![tactic(auto)]
 
-fn main() {
-    requests::serve();
+use std::io;
+
+fn main(rt: HostRuntime) -> io::Result<()> {
+    requests::serve(&rt)
 }

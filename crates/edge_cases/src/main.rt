@@ -1,73 +1,80 @@
 // The program's answers at its edges. tools/edge_cases.py makes the files in data/ and the expected answers, from the calls below.
 #![tactic(auto)]
 
+use std::io;
 
 // The answer to one file of data/ by the rule in another.
-fn case(pages: &[u8], batch: &[u8]) {
-    let fd = os::open_read(batch);
-    answers::print(pages, fd);
-    libc::close(fd);
+fn case(rt: &HostRuntime, pages: &str, batch: &str) -> io::Result<()> {
+    match answers::open(rt, batch)? {
+        Some(mut file) => answers::print(rt, pages, &mut file),
+        None => answers::print(rt, pages, &mut io::empty()),
+    }
 }
 
 // Files that hold no rule: refused with 1 to 3.
-fn files() {
-    case(b"absent.pages", b"three.batch");
-    case(b"empty.pages", b"three.batch");
-    case(b"one_byte_short.pages", b"three.batch");
-    case(b"nine.pages", b"three.batch");
-    case(b"check.pages", b"three.batch");
-    case(b"filler.pages", b"three.batch");
+fn files(rt: &HostRuntime) -> io::Result<()> {
+    case(rt, "absent.pages", "three.batch")?;
+    case(rt, "empty.pages", "three.batch")?;
+    case(rt, "one_byte_short.pages", "three.batch")?;
+    case(rt, "nine.pages", "three.batch")?;
+    case(rt, "check.pages", "three.batch")?;
+    case(rt, "filler.pages", "three.batch")?;
+    Ok(())
 }
 
 // Rules that are refused, with 4 to 10 or 16, whatever the input is.
-fn rules() {
-    case(b"header.pages", b"three.batch");
-    case(b"tag.pages", b"three.batch");
-    case(b"variable.pages", b"three.batch");
-    case(b"target.pages", b"three.batch");
-    case(b"deep.pages", b"three.batch");
-    case(b"early.pages", b"eleven.batch");
-    case(b"after.pages", b"absent.batch");
-    case(b"cycle.pages", b"three.batch");
+fn rules(rt: &HostRuntime) -> io::Result<()> {
+    case(rt, "header.pages", "three.batch")?;
+    case(rt, "tag.pages", "three.batch")?;
+    case(rt, "variable.pages", "three.batch")?;
+    case(rt, "target.pages", "three.batch")?;
+    case(rt, "deep.pages", "three.batch")?;
+    case(rt, "early.pages", "eleven.batch")?;
+    case(rt, "after.pages", "absent.batch")?;
+    case(rt, "cycle.pages", "three.batch")?;
+    Ok(())
 }
 
 // Inputs that hold no batch, and the shortest and the longest that do.
-fn inputs() {
-    case(b"sum.pages", b"absent.batch");
-    case(b"sum.pages", b"eleven.batch");
-    case(b"sum.pages", b"no_rows.batch");
-    case(b"sum.pages", b"thirteen.batch");
-    case(b"stops.pages", b"longest.batch");
-    case(b"stops.pages", b"too_long.batch");
+fn inputs(rt: &HostRuntime) -> io::Result<()> {
+    case(rt, "sum.pages", "absent.batch")?;
+    case(rt, "sum.pages", "eleven.batch")?;
+    case(rt, "sum.pages", "no_rows.batch")?;
+    case(rt, "sum.pages", "thirteen.batch")?;
+    case(rt, "stops.pages", "longest.batch")?;
+    case(rt, "stops.pages", "too_long.batch")?;
+    Ok(())
 }
 
 // Batches at their limits.
-fn batches() {
-    case(b"sum.pages", b"three.batch");
-    case(b"sum.pages", b"one_value_short.batch");
-    case(b"sum.pages", b"too_many_rows.batch");
-    case(b"sum.pages", b"too_high_quota.batch");
-    case(b"sum.pages", b"too_high_budget.batch");
-    case(b"sum.pages", b"both_too_high.batch");
-    case(b"sum.pages", b"no_budget.batch");
-    case(b"sum.pages", b"no_quota.batch");
-    case(b"divides.pages", b"faults.batch");
-    case(b"goes_back.pages", b"three.batch");
+fn batches(rt: &HostRuntime) -> io::Result<()> {
+    case(rt, "sum.pages", "three.batch")?;
+    case(rt, "sum.pages", "one_value_short.batch")?;
+    case(rt, "sum.pages", "too_many_rows.batch")?;
+    case(rt, "sum.pages", "too_high_quota.batch")?;
+    case(rt, "sum.pages", "too_high_budget.batch")?;
+    case(rt, "sum.pages", "both_too_high.batch")?;
+    case(rt, "sum.pages", "no_budget.batch")?;
+    case(rt, "sum.pages", "no_quota.batch")?;
+    case(rt, "divides.pages", "faults.batch")?;
+    case(rt, "goes_back.pages", "three.batch")?;
+    Ok(())
 }
 
 // Rules that fault: where, in an expression, a condition, a statement and a block.
-fn faults() {
-    case(b"inner_operand.pages", b"inner_operand.batch");
-    case(b"taken_arm.pages", b"taken_arm.batch");
-    case(b"condition_of_if.pages", b"condition_of_if.batch");
-    case(b"second_statement.pages", b"second_statement.batch");
-    case(b"block_of_four.pages", b"block_of_four.batch");
+fn faults(rt: &HostRuntime) -> io::Result<()> {
+    case(rt, "inner_operand.pages", "inner_operand.batch")?;
+    case(rt, "taken_arm.pages", "taken_arm.batch")?;
+    case(rt, "condition_of_if.pages", "condition_of_if.batch")?;
+    case(rt, "second_statement.pages", "second_statement.batch")?;
+    case(rt, "block_of_four.pages", "block_of_four.batch")?;
+    Ok(())
 }
 
-fn main() {
-    files();
-    rules();
-    inputs();
-    batches();
-    faults();
+fn main(rt: HostRuntime) -> io::Result<()> {
+    files(&rt)?;
+    rules(&rt)?;
+    inputs(&rt)?;
+    batches(&rt)?;
+    faults(&rt)
 }

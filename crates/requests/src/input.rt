@@ -1,8 +1,10 @@
-// What a request holds, read from standard input.
+// What a request holds, read from the input.
 ghost use Rattle.std.specs.Prelude.{◌*◌, ◌≤◌, length};
+ghost use Rattle.std.specs.Io.{ReadsAtMost};
 
 use crate::parts;
-use libc::STDIN_FILENO;
+use std::io;
+use std::io::Read;
 
 // The most bytes or words that a part of a request has.
 pub const MOST: usize = 8192;
@@ -12,55 +14,70 @@ pub const END: usize = 4294967296;
 
 pub const CUT: usize = 4294967297;
 
+// Reads until buf is full or the input ends, and answers how many bytes it put at the start of buf.
+fn read_full<R: Read>(from: &mut R, buf: &mut [u8]) -> io::Result<usize>
+    ensures { ReadsAtMost result buf.new }
+{
+    let mut done = 0;
+    while done < buf.len() {
+        let n = from.read(&mut buf[done..])?;
+        if n == 0 {
+            break;
+        }
+        done += n;
+    }
+    Ok(done)
+}
+
 // The next number of four bytes, or END or CUT, which lie past every limit.
-pub fn next_number() -> usize {
+pub fn next_number<R: Read>(from: &mut R) -> io::Result<usize> {
     let mut b = [0u8; 4];
-    let n = io::read_full(STDIN_FILENO, &mut b);
+    let n = read_full(from, &mut b)?;
     if n == 0 {
-        return END;
+        return Ok(END);
     }
     if n < 4 {
-        return CUT;
+        return Ok(CUT);
     }
-    values::joined(b[0], b[1], b[2], b[3]) as usize
+    Ok(values::joined(b[0], b[1], b[2], b[3]) as usize)
 }
 
 // Fills buf with numbers, and answers whether the input went so far.
-pub fn fill_numbers(buf: &mut [u32]) -> bool {
+pub fn fill_numbers<R: Read>(from: &mut R, buf: &mut [u32]) -> io::Result<bool> {
     let mut i = 0;
     while i < buf.len() {
-        let n = next_number();
+        let n = next_number(from)?;
         if END <= n {
-            return false;
+            return Ok(false);
         }
         buf[i] = n as u32;
         i += 1;
     }
-    true
+    Ok(true)
 }
 
 // Fills buf, and answers whether the input went so far.
-pub fn fill(buf: &mut [u8]) -> bool {
-    let n = buf.len();
-    io::read_full(STDIN_FILENO, buf) == n
+pub fn fill<R: Read>(from: &mut R, buf: &mut [u8]) -> io::Result<bool> {
+    let n = read_full(from, buf)?;
+    Ok(n == buf.len())
 }
 
 // Fills buf with words of four bytes, and answers whether the input went so far.
-pub fn fill_words(buf: &mut [i32]) -> bool
+pub fn fill_words<R: Read>(from: &mut R, buf: &mut [i32]) -> io::Result<bool>
     requires { length buf.old ≤ 8192 }
 {
     let mut raw = [0u8; 32768];
     let n = 4 * buf.len();
-    words_in(parts::bytes(&mut raw, n), buf)
+    words_in(from, parts::bytes(&mut raw, n), buf)
 }
 
 // Fills raw, and buf with its words.
-fn words_in(raw: &mut [u8], buf: &mut [i32]) -> bool
+fn words_in<R: Read>(from: &mut R, raw: &mut [u8], buf: &mut [i32]) -> io::Result<bool>
     requires { 4 * length buf.old ≤ length raw.old }
 {
-    let ok = fill(raw);
+    let ok = fill(from, raw)?;
     put_words(raw, buf);
-    ok
+    Ok(ok)
 }
 
 // The words in raw, as many as buf has room for.

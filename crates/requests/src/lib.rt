@@ -8,35 +8,48 @@ mod output;
 mod parts;
 mod runs;
 
-// Serves all requests. A proved loop has to end, and nothing says that the input does: so it counts down from a number that no input uses up.
-pub fn serve() {
-    let mut turns = u64::MAX;
-    while turns > 0 && served() {
-        turns -= 1;
+use std::io;
+use std::io::{BufReader, BufWriter, Input, Print, Read, Write};
+
+// Serves all requests of standard input, and prints their answers.
+pub fn serve<R: Input + Print + AllocGlobal>(rt: &R) -> io::Result<()> {
+    let mut from = BufReader::new(rt.alloc(), rt.reader())?;
+    let mut to = BufWriter::new(rt.alloc(), io::writer(rt))?;
+    serve_all(&mut from, &mut to)?;
+    to.flush()
+}
+
+// A proved loop has to end, and nothing says that the input does: so it counts up to a number that no input uses up.
+fn serve_all<R: Read, W: Write>(from: &mut R, to: &mut W) -> io::Result<()> {
+    for _ in 0..u64::MAX {
+        if !served(from, to)? {
+            break;
+        }
     }
+    Ok(())
 }
 
 // Serves the next request, and answers whether there was one. What is none is answered with a line of its own.
-fn served() -> bool {
-    let kind = input::next_number();
+fn served<R: Read, W: Write>(from: &mut R, to: &mut W) -> io::Result<bool> {
+    let kind = input::next_number(from)?;
     if kind == input::END {
-        return false;
+        return Ok(false);
     }
-    let is_answered = answered(kind);
+    let is_answered = answered(kind, from, to)?;
     if is_answered {
-        output::text(b"\n");
+        output::text(to, b"\n")?;
     } else {
-        output::text(b"end\n");
+        output::text(to, b"end\n")?;
     }
-    is_answered
+    Ok(is_answered)
 }
 
 // Answers a request of this kind; false where there is no such kind, the request is cut short, or a part of it is too long.
-fn answered(kind: usize) -> bool {
+fn answered<R: Read, W: Write>(kind: usize, from: &mut R, to: &mut W) -> io::Result<bool> {
     match kind {
-        1 | 2 | 3 => bytes::answered(kind),
-        4 => runs::answered(),
-        5 => finds::answered(),
-        _ => false,
+        1 | 2 | 3 => bytes::answered(kind, from, to),
+        4 => runs::answered(from, to),
+        5 => finds::answered(from, to),
+        _ => Ok(false),
     }
 }

@@ -1,29 +1,30 @@
-// What is printed of an answer, on standard output.
+// What is printed of an answer.
 ghost use Rattle.std.specs.Prelude.{◌*◌, ◌≤◌, length};
 ghost use Rattle.io.specs.Counts.{IsPrefixLen};
 
 use definitions::Reply;
-use libc::STDOUT_FILENO;
+use std::io;
+use std::io::Write;
 
-pub fn text(bytes: &[u8]) {
-    io::write_all(STDOUT_FILENO, bytes);
+pub fn text<W: Write>(to: &mut W, bytes: &[u8]) -> io::Result<()> {
+    to.write_all(bytes)
 }
 
-fn number(n: u64) {
-    io::print_decimal(STDOUT_FILENO, n);
+fn number<W: Write>(to: &mut W, n: u64) -> io::Result<()> {
+    write!(to, "{n}")
 }
 
-pub fn reply(r: Reply) {
+pub fn reply<W: Write>(to: &mut W, r: Reply) -> io::Result<()> {
     match r {
         Reply::Done(n) => {
-            text(b"ok ");
-            number(n as u64);
+            text(to, b"ok ")?;
+            number(to, n as u64)
         }
         Reply::Refused(f) => {
-            text(b"refused ");
-            number(f.number as u64);
-            text(b" ");
-            number(f.place as u64);
+            text(to, b"refused ")?;
+            number(to, f.number as u64)?;
+            text(to, b" ")?;
+            number(to, f.place as u64)
         }
     }
 }
@@ -36,15 +37,15 @@ fn digit(x: u8) -> u8 {
 }
 
 // All bytes, the higher digit of each first, or a dash.
-pub fn hex(bytes: &[u8])
+pub fn hex<W: Write>(to: &mut W, bytes: &[u8]) -> io::Result<()>
     requires { length bytes.now ≤ 8192 }
 {
     if bytes.len() == 0 {
-        text(b"-");
+        text(to, b"-")
     } else {
         let mut out = [0u8; 16384];
         let n = put_hex(bytes, &mut out);
-        text(&out[..n]);
+        text(to, &out[..n])
     }
 }
 
@@ -67,25 +68,26 @@ fn put_hex(bytes: &[u8], out: &mut [u8]) -> usize
 // ---- words in decimal
 
 // A word, with its sign.
-fn word(x: i32) {
+fn word<W: Write>(to: &mut W, x: i32) -> io::Result<()> {
     if x < 0 {
-        text(b"-");
+        text(to, b"-")?;
     }
-    number(printing::magnitude(x));
+    number(to, printing::magnitude(x))
 }
 
 // All words with single spaces between them, or a dash.
-pub fn words(ws: &[i32]) {
+pub fn words<W: Write>(to: &mut W, ws: &[i32]) -> io::Result<()> {
     if ws.len() == 0 {
-        text(b"-");
+        text(to, b"-")?;
     }
     let mut i = 0;
     while i < ws.len() {
         if 0 < i {
-            text(b" ");
+            text(to, b" ")?;
         }
         let x = ws[i];
-        word(x);
+        word(to, x)?;
         i += 1;
     }
+    Ok(())
 }

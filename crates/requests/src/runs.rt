@@ -4,6 +4,8 @@ ghost use Rattle.std.specs.Prelude.{◌≤◌, length};
 use crate::input::MOST;
 use crate::{input, output, parts};
 use definitions::Reply;
+use std::io;
+use std::io::{Read, Write};
 
 // What a buffer's words hold before the call.
 const BEFORE: i32 = -1431655766;
@@ -25,42 +27,53 @@ struct Run {
     work_room: usize,
 }
 
-pub fn answered() -> bool {
-    let rows = input::next_number();
-    let common = input::next_number();
+pub fn answered<R: Read, W: Write>(from: &mut R, to: &mut W) -> io::Result<bool> {
+    let rows = input::next_number(from)?;
+    let common = input::next_number(from)?;
     match common {
-        0 => with_list(rows),
-        1 => with_common(rows),
-        _ => false,
+        0 => with_list(rows, from, to),
+        1 => with_common(rows, from, to),
+        _ => Ok(false),
     }
 }
 
-fn with_common(rows: usize) -> bool {
-    let budget = input::next_number();
+fn with_common<R: Read, W: Write>(rows: usize, from: &mut R, to: &mut W) -> io::Result<bool> {
+    let budget = input::next_number(from)?;
     let none = [0u32; 1];
-    with_budgets(rows, Brought::Common(budget), &none)
+    with_budgets(rows, Brought::Common(budget), &none, from, to)
 }
 
-fn with_list(rows: usize) -> bool {
-    let count = input::next_number();
+fn with_list<R: Read, W: Write>(rows: usize, from: &mut R, to: &mut W) -> io::Result<bool> {
+    let count = input::next_number(from)?;
     if MOST < count {
-        return false;
+        return Ok(false);
     }
     let mut budgets = [0u32; 8192];
-    with_listed(rows, parts::numbers(&mut budgets, count))
+    with_listed(rows, parts::numbers(&mut budgets, count), from, to)
 }
 
-fn with_listed(rows: usize, budgets: &mut [u32]) -> bool {
-    if !input::fill_numbers(budgets) {
-        return false;
+fn with_listed<R: Read, W: Write>(
+    rows: usize,
+    budgets: &mut [u32],
+    from: &mut R,
+    to: &mut W,
+) -> io::Result<bool> {
+    if !input::fill_numbers(from, budgets)? {
+        return Ok(false);
     }
-    with_budgets(rows, Brought::Each, budgets)
+    with_budgets(rows, Brought::Each, budgets, from, to)
 }
 
-fn with_budgets(rows: usize, brought: Brought, budgets: &[u32]) -> bool {
-    let quota = input::next_number();
-    let out_room = input::next_number();
-    let work_room = input::next_number();
+fn with_budgets<R: Read, W: Write>(
+    rows: usize,
+    brought: Brought,
+    budgets: &[u32],
+    from: &mut R,
+    to: &mut W,
+) -> io::Result<bool> {
+    let quota = input::next_number(from)?;
+    let out_room = input::next_number(from)?;
+    let work_room = input::next_number(from)?;
     with_numbers(
         Run {
             rows: rows,
@@ -70,43 +83,70 @@ fn with_budgets(rows: usize, brought: Brought, budgets: &[u32]) -> bool {
             work_room: work_room,
         },
         budgets,
+        from,
+        to,
     )
 }
 
-fn with_numbers(run: Run, budgets: &[u32]) -> bool {
-    let length = input::next_number();
+fn with_numbers<R: Read, W: Write>(
+    run: Run,
+    budgets: &[u32],
+    from: &mut R,
+    to: &mut W,
+) -> io::Result<bool> {
+    let length = input::next_number(from)?;
     if MOST < length {
-        return false;
+        return Ok(false);
     }
     let mut plan = [0u8; 8192];
-    with_plan(run, budgets, parts::bytes(&mut plan, length))
+    with_plan(run, budgets, parts::bytes(&mut plan, length), from, to)
 }
 
-fn with_plan(run: Run, budgets: &[u32], plan: &mut [u8]) -> bool {
-    if !input::fill(plan) {
-        return false;
+fn with_plan<R: Read, W: Write>(
+    run: Run,
+    budgets: &[u32],
+    plan: &mut [u8],
+    from: &mut R,
+    to: &mut W,
+) -> io::Result<bool> {
+    if !input::fill(from, plan)? {
+        return Ok(false);
     }
-    let count = input::next_number();
+    let count = input::next_number(from)?;
     if MOST < count {
-        return false;
+        return Ok(false);
     }
     let mut values = [0i32; 8192];
-    with_values(run, budgets, plan, parts::words(&mut values, count))
+    with_values(
+        run,
+        budgets,
+        plan,
+        parts::words(&mut values, count),
+        from,
+        to,
+    )
 }
 
-fn with_values(run: Run, budgets: &[u32], plan: &[u8], values: &mut [i32]) -> bool
+fn with_values<R: Read, W: Write>(
+    run: Run,
+    budgets: &[u32],
+    plan: &[u8],
+    values: &mut [i32],
+    from: &mut R,
+    to: &mut W,
+) -> io::Result<bool>
     requires { length values.old ≤ 8192 }
 {
-    if !input::fill_words(values) {
-        return false;
+    if !input::fill_words(from, values)? {
+        return Ok(false);
     }
     let out_room = run.out_room;
     let work_room = run.work_room;
     if MOST < out_room {
-        return false;
+        return Ok(false);
     }
     if MOST < work_room {
-        return false;
+        return Ok(false);
     }
     let mut out = [BEFORE; 8192];
     let mut work = [BEFORE; 8192];
@@ -117,20 +157,22 @@ fn with_values(run: Run, budgets: &[u32], plan: &[u8], values: &mut [i32]) -> bo
         values,
         parts::words(&mut out, out_room),
         parts::words(&mut work, work_room),
-    );
-    true
+        to,
+    )?;
+    Ok(true)
 }
 
-fn print(
+fn print<W: Write>(
     run: Run,
     budgets: &[u32],
     plan: &[u8],
     values: &[i32],
     out: &mut [i32],
     work: &mut [i32],
-) {
-    output::reply(reply(run, budgets, plan, values, out, work));
-    buffers(out, work);
+    to: &mut W,
+) -> io::Result<()> {
+    output::reply(to, reply(run, budgets, plan, values, out, work))?;
+    buffers(to, out, work)
 }
 
 fn reply(
@@ -150,9 +192,9 @@ fn reply(
     }
 }
 
-fn buffers(out: &[i32], work: &[i32]) {
-    output::text(b" | ");
-    output::words(out);
-    output::text(b" | ");
-    output::words(work);
+fn buffers<W: Write>(to: &mut W, out: &[i32], work: &[i32]) -> io::Result<()> {
+    output::text(to, b" | ")?;
+    output::words(to, out)?;
+    output::text(to, b" | ")?;
+    output::words(to, work)
 }
