@@ -1,0 +1,12 @@
+-- `printing::put_refusal` meets its contract: two texts in a row.
+use native.Mathlib.Omega.{arith}
+use Rattle.printing.specs.Text.{refusal_text}
+use Rattle.printing.proofs.Laws.{put_then, put_whole}
+use Rattle.printing.proofs.put_refusal.Goals as goal
+
+pub returns-clause-out_after : goal.returns-clause-out_after
+unfolding refusal_text
+returns-clause-out_after c =
+    let p = c.put_labelled-next.ensures in
+    let q = c.put_last.ensures in
+    (put_whole c.args.out.now _ (put_then c.args.out.now 0 p.put (omega (arith, p.upper_bound)) q.put) (omega (arith, p.upper_bound, q.upper_bound))).1
