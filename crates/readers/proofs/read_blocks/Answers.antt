@@ -1,4 +1,4 @@
--- `rules::read_blocks` meets its contract. The loop's invariant: the first `block` blocks end at `at`. The measure is the blocks left.
+-- `readers::read_blocks` meets its contract. The loop's invariant: the first `block` blocks end at `at`. The measure is the blocks left.
 use mathlib.Core.Path.{refl, sym}
 use native.Mathlib.Omega.{arith}
 use Rattle.definitions.specs.Grammar.{read_of, blocks_to}

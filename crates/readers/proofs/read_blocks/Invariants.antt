@@ -1,4 +1,4 @@
--- `rules::read_blocks` meets its contract. The loop's invariant: the first `block` blocks end at `at`. The measure is the blocks left.
+-- `readers::read_blocks` meets its contract. The loop's invariant: the first `block` blocks end at `at`. The measure is the blocks left.
 use Prim.Native.Nat.{◌-◌, ◌≤◌}
 use mathlib.Core.Path.{◌≡◌}
 use Rattle.definitions.specs.Grammar.{read_of, blocks_to}

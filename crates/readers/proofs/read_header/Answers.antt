@@ -1,4 +1,4 @@
--- `rules::read_header` meets its contract: the tests are those of the definition, in its order.
+-- `readers::read_header` meets its contract: the tests are those of the definition, in its order.
 use borrow.Author.Tests.{lt-ltb, le-ltb, le-leb, lt-leb, eq-eqb, ne_eqb}
 use Rattle.definitions.specs.Grammar.{read_of, headed}
 use Rattle.readers.proofs.Laws.{told}

@@ -1,4 +1,4 @@
--- `rules::blocks::begins_stmt` meets its contract: the tests are on the byte, and past the end there is none.
+-- `readers::blocks::begins_stmt` meets its contract: the tests are on the byte, and past the end there is none.
 use Prim.Native.Nat.{ℕ}
 use mathlib.Core.Path.{◌≡◌, refl}
 use mathlib.Core.Bool.{Bool, true, false, cond}

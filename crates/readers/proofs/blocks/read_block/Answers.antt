@@ -1,4 +1,4 @@
--- `rules::blocks::read_block` meets its contract. The loop's invariant: the answer is that of the block from `next` on.
+-- `readers::blocks::read_block` meets its contract. The loop's invariant: the answer is that of the block from `next` on.
 -- The measure is what is left of the bytes, of which each statement takes some.
 use mathlib.Core.Path.{sym, ◌∙◌}
 use native.Mathlib.Omega.{arith}

@@ -1,4 +1,4 @@
--- `rules::exprs::read_constant` meets its contract: the tests say whether four bytes are there, with no sum that could wrap.
+-- `readers::exprs::read_constant` meets its contract: the tests say whether four bytes are there, with no sum that could wrap.
 use Prim.Native.Nat.{ℕ, ◌+◌, ◌-◌, ◌≤◌, ◌<◌}
 use native.Mathlib.Omega.{arith}
 use mathlib.Core.Path.{◌≡◌}

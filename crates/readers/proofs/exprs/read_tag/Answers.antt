@@ -1,4 +1,4 @@
--- `rules::exprs::read_tag` meets its contract: the tests are those of the definition, in its order.
+-- `readers::exprs::read_tag` meets its contract: the tests are those of the definition, in its order.
 use borrow.Author.Tests.{lt-ltb, le-ltb, eq-eqb, ne_eqb}
 use Rattle.readers.specs.Readings.{due_of}
 use Rattle.readers.proofs.exprs.read_tag.Goals as goal
