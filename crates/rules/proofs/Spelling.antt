@@ -7,7 +7,7 @@ use mathlib.Core.Logic.{◌↔◌}
 use mathlib.Core.List.{List}
 use lib.ListN.{length}
 use Rattle.definitions.specs.Rule.{Rule, size}
-use Rattle.definitions.specs.Grammar.{Got, got, then, rule_of, longest}
+use Rattle.definitions.specs.Grammar.{got, then, rule_of, longest}
 use Rattle.definitions.specs.Pages.{file_of, unpacked}
 use Rattle.definitions.specs.Calls.{to_read, to_write, Wrote}
 use Rattle.definitions.specs.Spelling.{in_turn, block_bytes, bytes_of}

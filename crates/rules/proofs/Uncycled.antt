@@ -1,6 +1,6 @@
 -- A rule is what is read to its end and has no cycle among its gotos. Assumes nothing.
 use Prim.Native.Nat.{ℕ, ◌≤◌, ◌<◌}
-use mathlib.Core.Path.{◌≡◌, refl, sym, ap, ◌∙◌}
+use mathlib.Core.Path.{◌≡◌, refl, sym, ◌∙◌}
 use mathlib.Core.Bool.{Bool, true, false, cond}
 use mathlib.Core.List.{List}
 use native.Mathlib.Omega.{arith}
@@ -9,7 +9,7 @@ use lib.ListN.{length, get_or}
 use borrow.Author.Tests.{ltb-false, lt-ltb, le-ltb}
 use Rattle.definitions.specs.Rule.{Rule, size}
 use Rattle.definitions.specs.Grammar.{Got, got, refused, then, read_of, misread, parsed, uncycled, rule_of, longest}
-use Rattle.definitions.specs.Paths.{goto_in, Step, GotoPath, one, more, OnCycle, NoCycle, LowestOnCycle}
+use Rattle.definitions.specs.Paths.{goto_in, Step, GotoPath, one, more, NoCycle, LowestOnCycle}
 use Rattle.definitions.specs.Cycles.{cycle_of}
 use Rattle.definitions.specs.declared.Refusal.{Refusal}
 use Rattle.definitions.specs.declared.Read.TheVariants.{Next, Refused}

@@ -1,0 +1,30 @@
+-- `rules::read_rule` meets its contract.
+use mathlib.Core.Path.{◌∙◌}
+use native.Mathlib.Omega.{arith}
+use Rattle.readers.proofs.Laws.{told}
+use Rattle.rules.proofs.Uncycled.{tell_refused, tell-ruled, tell-header, tell_none, tell-at}
+use Rattle.rules.proofs.read_rule.Goals as goal
+
+pub gotos_of-gotos-requires : goal.gotos_of-gotos-requires
+gotos_of-gotos-requires c =
+    tell-ruled _ _ (told c.read_tree.ensures c.in-Next.is) c.requires
+
+pub bounds-s-3 : goal.bounds-s-3
+bounds-s-3 c =
+    omega (arith, (tell-header _ _ (told c.read_tree.ensures c.in-Next.is) c.requires).0)
+
+pub first_cycle-requires : goal.first_cycle-requires
+first_cycle-requires c =
+    omega (arith, (tell-header _ _ (told c.read_tree.ensures c.in-Next.is) c.requires).1)
+
+pub returns-in-Refused : goal.returns-in-Refused
+returns-in-Refused c =
+    tell_refused _ _ (told c.read_tree.ensures c.in-Refused.is)
+
+pub returns-in-None : goal.returns-in-None
+returns-in-None c =
+    tell_none _ _ (told c.read_tree.ensures c.in-Next.is) c.requires c.gotos_of-gotos.result c.gotos_of-gotos.ensures c.first_cycle.ensures c.in-None.is
+
+pub returns-in-At : goal.returns-in-At
+returns-in-At c =
+    c.misread.ensures ∙ tell-at _ _ (told c.read_tree.ensures c.in-Next.is) c.requires c.gotos_of-gotos.result c.gotos_of-gotos.ensures c.first_cycle.ensures _ c.in-At.is
