@@ -1,5 +1,4 @@
 -- `closure::columns` meets its contract. After k variables the masks are the sums over those below k, for every flow that the tables tell of.
---
 use mathlib.Core.Path.{◌≡◌, ◌∙◌}
 use lib.ListN.{get_or-replicate}
 use Rattle.definitions.specs.Columns.{inputs_of, outputs_of}

@@ -1,5 +1,4 @@
 -- `closure::columns` meets its contract. After k variables the masks are the sums over those below k, for every flow that the tables tell of.
---
 use Prim.Native.Nat.{◌-◌, ◌≤◌}
 use Rattle.definitions.specs.Columns.{Flow}
 use Rattle.closure.specs.Tables.{Tables, Columned}
