@@ -4,7 +4,7 @@ use mathlib.Core.Path.{◌≡◌, refl, sym, ap, ◌∙◌}
 use mathlib.Core.Bool.{cond}
 use mathlib.Core.List.{List, []}
 use native.Mathlib.Omega.{arith}
-use lib.ListN.{length, take, get_or}
+use lib.ListN.{length, get_or}
 use Rattle.definitions.specs.Rule.{Rule, size, block_of}
 use Rattle.definitions.specs.Grammar.{Got, got, refused, parsed, rule_of, block_at}
 use Rattle.definitions.specs.Columns.{flow_of, J, inputs_of, outputs_of, LC}

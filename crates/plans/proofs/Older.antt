@@ -3,13 +3,13 @@
 use Prim.Native.Nat.{ℕ, zero, suc, ◌≤◌, ◌<◌}
 use mathlib.Core.Path.{◌≡◌, refl, sym, ap, ap₂, subst, ◌∙◌}
 use mathlib.Core.Bool.{Bool, true, false, cond, ◌&&◌, ◌||◌}
-use mathlib.Core.List.{List, [], ◌++◌}
+use mathlib.Core.List.{List, ◌++◌}
 use native.Mathlib.Omega.{arith}
 use lib.Dec.{eqb, leb}
 use lib.ListN.{length, take}
 use Rattle.definitions.specs.Rule.{Rule, size, block_of}
-use Rattle.definitions.specs.Grammar.{Got, got, refused, rule_of, longest}
-use Rattle.definitions.specs.Columns.{LedTo, led_to, Flow, flow_over, flow_of, jumps_to}
+use Rattle.definitions.specs.Grammar.{got, refused, rule_of, longest}
+use Rattle.definitions.specs.Columns.{LedTo, led_to, Flow, flow_over, jumps_to}
 use Rattle.definitions.specs.Plan.{mask_of, entry_of, entries_to, plan_by, plan_of, carried, as_plan, planned, same}
 use Rattle.definitions.specs.Pages.{unpacked}
 use Rattle.definitions.specs.Calls.{to_compile, bytes_in, columns_reply, refusal, Wrote}
@@ -25,7 +25,7 @@ use Rattle.plans.specs.Promised.{rule_in_file}
 use Rattle.plans.specs.Older.{older_plan, NoneDead, NoColumns}
 use Rattle.plans.specs.Accepted.{tree_of, rule_in, Accepted}
 use Rattle.plans.proofs.Fields.{plan-carries}
-use Rattle.plans.proofs.Accepted.{is-plan, same-is}
+use Rattle.plans.proofs.Accepted.{same-is}
 use Rattle.plans.proofs.Promises.{compiled-accepted, compiled}
 use Rattle.plans.proofs.Carried.{at-inputs, at-outputs, at-joins}
 
