@@ -1,0 +1,9 @@
+-- `requests::output::words` is safe and ends.
+use Rattle.std.proofs.Common.{◌-◌, ◌≤◌, length}
+use Rattle.requests.proofs.output.words.Given as goal
+
+abbrev pub invariant-loop-i : goal.invariant-loop-i
+invariant-loop-i g l = l.i ≤ length l.ws
+
+abbrev pub decreases-loop-i : goal.decreases-loop-i
+decreases-loop-i g l = length l.ws - l.i
