@@ -1,9 +1,11 @@
 // The answer to what files hold.
-ghost use Rattle.std.specs.Prelude.{◌≡◌, IfOk, IfSome, take};
+ghost use Rattle.std.specs.Prelude.{◌≡◌, ◌≢◌, Ok, Err, Some, None, IfOk, IfErr, OnOk, IfSome, take};
+ghost use Rattle.std.specs.Io.KnownBytes.{Appends};
+ghost use Rattle.std.specs.IoError.{error_kind};
+ghost use Rattle.answers.specs.Answer.{answer_to};
 
 use crate::{MOST_INPUT, TEXT_ROOM};
 use std::alloc::Global;
-use std::fs::File;
 use std::io::{ErrorKind, Print, Read, Write};
 use std::rt::Files;
 use std::{fs, io};
@@ -13,13 +15,22 @@ const FILE_ROOM: u64 = 4097;
 
 const INPUT_ROOM: u64 = MOST_INPUT as u64 + 1;
 
-// Opens a file, or answers that it is not there.
-pub fn open<R: Files>(rt: &R, path: &str) -> io::Result<Option<R::File>> {
-    match fs::open(rt, path) {
+// What opening a file came to: none where it is not there.
+fn if_there<F>(opened: io::Result<F>) -> io::Result<Option<F>>
+    ensures there { IfOk opened (λ file. result ≡ Ok (Some file)) }
+    ensures absent { IfErr opened (λ e. error_kind e ≡ ErrorKind.NotFound → result ≡ Ok None) }
+    ensures failed { IfErr opened (λ e. error_kind e ≢ ErrorKind.NotFound → result ≡ Err e) }
+{
+    match opened {
         Ok(file) => Ok(Some(file)),
         Err(e) if e.kind() == ErrorKind::NotFound => Ok(None),
         Err(e) => Err(e),
     }
+}
+
+// Opens a file, or answers none where it is not there.
+pub fn open<R: Files>(rt: &R, path: &str) -> io::Result<Option<R::File>> {
+    if_there(fs::open(rt, path))
 }
 
 // The first bytes of an input, at most as many as `most`.
@@ -31,33 +42,32 @@ fn first_bytes<I: Read>(alloc: Global, input: &mut I, most: u64) -> io::Result<V
     Ok(bytes)
 }
 
-// The first bytes of a file. One that is not there gives none.
-fn file_bytes<R: Files + AllocGlobal>(rt: &R, path: &str) -> io::Result<Vec<u8>> {
-    match open(rt, path)? {
-        Some(mut file) => first_bytes(rt.alloc(), &mut file, FILE_ROOM),
-        None => Ok(Vec::new(rt.alloc())),
-    }
+// Writes the answer to an input by the rule in a file. Of each it reads no more than shows that it is too long.
+pub fn write_answer<F: Read, I: Read, W: Write>(
+    alloc: Global,
+    file: &mut F,
+    input: &mut I,
+    to: &mut W,
+) -> io::Result<()>
+    ensures { OnOk result (IfSome (F.remaining file.old) (λ f. IfSome (I.remaining input.old) (λ s.
+        Appends (W.contents to.old) (W.contents to.new) (answer_to f s)))) }
+{
+    let pages = first_bytes(alloc, file, FILE_ROOM)?;
+    let batch = first_bytes(alloc, input, INPUT_ROOM)?;
+    let mut out = [0u8; TEXT_ROOM];
+    let n = crate::answer(&pages, &batch, &mut out);
+    to.write_all(&out[..n])
 }
 
-// Prints the answer to an input, by the rule in the file at the path.
+// Prints the answer to an input by the rule in the file at the path. A file that is not there counts as an empty one.
 pub fn print<R: Files + Print + AllocGlobal, I: Read>(
     rt: &R,
     path: &str,
     input: &mut I,
 ) -> io::Result<()> {
-    let pages = file_bytes(rt, path)?;
-    print_answer(rt.alloc(), &pages, input, &mut io::writer(rt))
-}
-
-// Writes the answer to an input, by the rule in a file of these bytes.
-fn print_answer<I: Read, W: Write>(
-    alloc: Global,
-    pages: &[u8],
-    input: &mut I,
-    to: &mut W,
-) -> io::Result<()> {
-    let batch = first_bytes(alloc, input, INPUT_ROOM)?;
-    let mut out = [0u8; TEXT_ROOM];
-    let n = crate::answer(pages, &batch, &mut out);
-    to.write_all(&out[..n])
+    let mut to = io::writer(rt);
+    match open(rt, path)? {
+        Some(mut file) => write_answer(rt.alloc(), &mut file, input, &mut to),
+        None => write_answer(rt.alloc(), &mut io::empty(), input, &mut to),
+    }
 }

@@ -10,7 +10,7 @@ ghost use Rattle.printing.specs.Text.{text_room};
 ghost use Rattle.answers.specs.Answer.{number_in, words_in, no_batch, most_input, batch_in, input_answer, batch_answer, answer_to};
 
 use definitions::{LONGEST_PLAN, ROWS, Reply, VARIABLES};
-pub use files::{open, print};
+pub use files::{open, print, write_answer};
 use layouts::{MOST_LINES, MOST_RECORDS};
 
 // The most values of a batch, and the most bytes of an input that holds one.
