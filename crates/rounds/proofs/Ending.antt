@@ -6,7 +6,6 @@ use native.Mathlib.Decide.{dec_lt}
 use mathlib.Core.Path.{◌≡◌, sym, ◌∙◌}
 use mathlib.Core.Bool.{Bool, true, false}
 use mathlib.Core.List.{List}
-use lib.Dec.{ltb}
 use lib.ListN.{length, get_or}
 use Rattle.definitions.specs.Values.{Word, values_in, value}
 use Rattle.definitions.specs.Rule.{Cond, End, Goto, Jump, Stop, If}

@@ -1,11 +1,9 @@
 -- What is read in some bytes is read in every longer list that begins with them: so a rule may be run where it lies before other bytes. Assumes nothing.
-use Prim.Native.Nat.{ℕ, zero, suc, ◌+◌, ◌<◌, ◌≤◌}
+use Prim.Native.Nat.{ℕ, zero, suc, ◌+◌, ◌≤◌}
 use native.Mathlib.Omega.{arith}
 use borrow.Author.Tests.{lt-ltb, le-leb}
 use mathlib.Core.Path.{◌≡◌, sym, ◌∙◌}
-use mathlib.Core.Bool.{Bool}
 use mathlib.Core.List.{List, []}
-use lib.Dec.{ltb}
 use lib.ListN.{length, get_or, take}
 use lib.Seq.{get_or-take}
 use Rattle.definitions.specs.Rule.{Expr, Cond, End, Stmt, Block, Set, Emit, Const, Var, Neg, Op, Case, Compare, Not, Join, Goto, Jump, If}

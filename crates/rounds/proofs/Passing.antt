@@ -8,7 +8,7 @@ use Rattle.definitions.specs.declared.Finish.{Finish}
 use Rattle.definitions.specs.Grammar.{levels}
 use Rattle.definitions.specs.Plan.{bit_of}
 use Rattle.definitions.specs.Meaning.{at_byte}
-use Rattle.definitions.specs.Direct.{ended, Exit, to_block, to_round, to_stop, exit, Round, leave}
+use Rattle.definitions.specs.Direct.{Exit, to_block, to_round, to_stop, exit, Round, leave}
 use Rattle.columns.specs.OnPlan.{kept}
 use Rattle.rounds.specs.Run.{EndHere, leading_of, BlockHere, labels_in, BodyRun, passage_of, round_of, labels_of, BlockRun}
 use Rattle.rounds.specs.declared.blocks.Entry.{Entry}

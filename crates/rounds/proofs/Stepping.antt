@@ -21,7 +21,6 @@ use Rattle.definitions.specs.declared.Flaw.{Flaw}
 use Rattle.definitions.specs.declared.Finish.{Finish}
 use Rattle.definitions.proofs.Values.{values_length, values-set, values-append}
 use Rattle.readers.specs.Readings.{stmt_body, stmt_at}
-use Rattle.evaluators.specs.Skip.{past}
 use Rattle.evaluators.specs.Answer.{Readable, answer}
 use Rattle.rounds.specs.Run.{StmtHere, labels_in, StmtRun, BlockHere, BodyRun}
 use Rattle.evaluators.specs.declared.Evaluated.{Evaluated}
