@@ -51,7 +51,7 @@ pub enum Outcome {
 }
 
 // How a row ended, or that it has not; and where, for a fault.
-#[derive(Drop)]
+#[derive(Clone, Copy)]
 pub struct Finish {
     pub status: u8,
     pub place: u16,

@@ -16,7 +16,7 @@ ghost use Rattle.layouts.specs.Rows.{SomeRowAt, RowRead};
 use definitions::{Finish, QUOTA, ROWS, VARIABLES};
 
 // What a rule's lines and a call's records depend on: the variables, the arguments, the LC columns among the variables, a line's size, and the quota.
-#[derive(Drop)]
+#[derive(Clone, Copy)]
 pub struct Layout {
     pub variables: usize,
     pub arguments: usize,
