@@ -1,4 +1,4 @@
--- Laws of the input's values, of a run's reply and of the text of its records. Assumes nothing.
+-- Laws of the input's values, of a run's reply and of the text of its records.
 use Prim.Native.Nat.{ℕ, zero, suc, ◌+◌, ◌-◌, ◌*◌, ◌/◌, ◌≤◌, ◌<◌}
 use mathlib.Core.Path.{◌≡◌, refl, sym, ◌∙◌}
 use mathlib.Core.Bool.{Bool, true, false, cond, ◌||◌}
