@@ -12,7 +12,7 @@ use Rattle.definitions.specs.Values.{Word}
 use Rattle.definitions.specs.Rule.{Rule}
 use Rattle.definitions.specs.Columns.{flow_of, LC}
 use Rattle.definitions.specs.Direct.{State, after, goes_on}
-use Rattle.definitions.specs.Batch.{Budgets, budget_of, record_size, records_of, live_of, most_of, starts_of, states_of, table_of}
+use Rattle.definitions.specs.Batch.{Budgets, budget_of, record_size, records_of, live_of, starts_of, states_of, table_of}
 use Rattle.definitions.specs.Finder.{most_rows}
 use Rattle.definitions.specs.Calls.{most_budget}
 use Rattle.columns.specs.Proper.{Proper}

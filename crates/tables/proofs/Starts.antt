@@ -9,7 +9,7 @@ use lib.ListN.{length, take, drop, get_or, replicate, length-append, length-take
 use lib.Seq.{drop-drop, get_or-drop}
 use Rattle.buffers.specs.Words.{over}
 use Rattle.buffers.proofs.Laws.{over-start}
-use Rattle.definitions.specs.Values.{Word, Val, number, values_in, words_of, unset}
+use Rattle.definitions.specs.Values.{Word, Val, number, values_in, unset}
 use Rattle.definitions.specs.Rule.{Rule}
 use Rattle.definitions.specs.Columns.{flow_of, LC}
 use Rattle.definitions.specs.Plan.{bit_of}

@@ -19,7 +19,7 @@ use rounds::Rule;
 // ---- budgets
 
 // How many rounds the rows may begin: one number for all, or one for each, in a list beside it.
-#[derive(Drop)]
+#[derive(Clone, Copy)]
 pub enum Allowance {
     Common(usize),
     Each,
