@@ -173,7 +173,7 @@ fn put_starts(l: Layout, values: &[i32], rows: usize, work: &mut [i32])
 }
 
 // How many rows a call has, and whether they have one budget for all.
-#[derive(Drop)]
+#[derive(Clone, Copy)]
 pub struct Extent {
     pub rows: usize,
     pub allowance: Allowance,
