@@ -1,10 +1,10 @@
 -- 02, K10: a run with one budget for all rows is the run with that budget for each of them, in every word. Assumes nothing.
-use Prim.Native.Nat.{ℕ, zero, suc, ◌+◌, ◌*◌, ◌≤◌, ◌<◌}
+use Prim.Native.Nat.{ℕ, zero, suc, ◌≤◌, ◌<◌}
 use native.Mathlib.Omega.{arith}
 use mathlib.Core.Path.{◌≡◌, refl, sym, ap, ◌∙◌}
 use mathlib.Core.Logic.{◌↔◌, ◌⊎◌, inl, inr}
 use mathlib.Core.List.{List, [], ◌∷◌}
-use lib.ListN.{length, get_or, replicate, length-replicate, get_or-replicate}
+use lib.ListN.{length, replicate, length-replicate, get_or-replicate}
 use borrow.Author.Tests.{eq-eqb}
 use Rattle.definitions.specs.Values.{Word}
 use Rattle.definitions.specs.Rule.{Rule}
@@ -12,7 +12,7 @@ use Rattle.definitions.specs.Grammar.{Got, got, refused}
 use Rattle.definitions.specs.Plan.{planned}
 use Rattle.definitions.specs.Direct.{after}
 use Rattle.definitions.specs.Batch.{Budgets, common, each, budget_of, starts_of}
-use Rattle.definitions.specs.Calls.{Batch, most_budget, brought, rows_of, ran_reply, run_reply, records_in, table_in, Ran}
+use Rattle.definitions.specs.Calls.{Batch, most_budget, rows_of, ran_reply, run_reply, records_in, table_in, Ran}
 use Rattle.definitions.specs.declared.Reply.{Reply}
 use Rattle.definitions.proofs.Tests.{less_or}
 use Rattle.tables.proofs.Rows.{map-alike}

@@ -20,7 +20,7 @@ use Rattle.definitions.specs.declared.Reply.TheVariants.{Done}
 use Rattle.definitions.proofs.Tests.{or_right, less_or}
 use Rattle.plans.proofs.Planned.{plan-exactly}
 use Rattle.batches.proofs.Budgets.{first-is, over_or, is-over, is_none, is-counted, is-miscounted, counted_or}
-use Rattle.batches.specs.Replies.{Counted, Fitting, NoneOver, FirstOver, Low, UnderRule, misfit, high, high_row, short_out, short_work, done, ToRun, no_plan, under}
+use Rattle.batches.specs.Replies.{Counted, Fitting, NoneOver, FirstOver, UnderRule, misfit, high, high_row, short_out, short_work, done, ToRun, no_plan, under}
 
 same_or : (a b : ℕ) → (a ≡ b) ⊎ (a ≡ b → ⊥)
 same_or a b = go (eqb a b) refl
@@ -98,6 +98,26 @@ run_exactly b out work r out' work' w q =
     let s = some-reply b (length out) (length work) in
     (λ e. rw (sym (only-reply b (length out) (length work) s.0 s.1) ∙ sym w.reply ∙ e) at s.1, λ h. w.reply ∙ only-reply b (length out) (length work) q h)
 
+-- a refusal is no run that is done
+no-done : {k p most : ℕ} {A : Type 0} → refusal k p ≡ Done most → A
+no-done e = let z : ◌≡◌ {A = ℕ} 0 1 = cc in absurd (omega arith)
+
 -- a run that is done kept to the limits, and its records fit
+abbrev Kept : Batch → ℕ → Type 0
+Kept b out = (b.rows ≤ most_rows) × ((b.quota ≤ most_quota) × (b.rows * record_size b.quota ≤ out))
+
+module _ {b : Batch} {out work most : ℕ} where
+  under-within : {r : Rule} {q : Reply} → UnderRule b r out work q → q ≡ Done most → Kept b out
+  under-within (misfit _) e = no-done e
+  under-within (high _ _) e = no-done e
+  under-within (high_row _ _ _) e = no-done e
+  under-within (short_out _ _ _) e = no-done e
+  under-within (short_work _ _ _ _) e = no-done e
+  under-within (done f l h _) e = (f.few, (l.quota-low, h))
+
+  run-within : {q : Reply} → ToRun b out work q → q ≡ Done most → Kept b out
+  run-within (no_plan _) e = no-done e
+  run-within (under p w) e = under-within w e
+
 pub done-within : {b : Batch} {out work most : ℕ} {q : ℕ} → b.quota ≡ q → ToRun b out work (Done most) → (b.rows ≤ most_rows) × ((q ≤ most_quota) × (b.rows * record_size q ≤ out))
-done-within e (under p (done f l h _)) = rw (← e) (f.few, (l.quota-low, h))
+done-within e w = rw (← e) (run-within w refl)

@@ -4,9 +4,9 @@ use mathlib.Core.Path.{◌≡◌, ap, ◌∙◌}
 use mathlib.Core.List.{List}
 use Rattle.definitions.specs.Values.{Word}
 use Rattle.definitions.specs.Rule.{Rule}
-use Rattle.definitions.specs.Grammar.{got, refused, rule_of}
+use Rattle.definitions.specs.Grammar.{got, rule_of}
 use Rattle.definitions.specs.Plan.{plan_of, planned}
-use Rattle.definitions.specs.Calls.{Batch, refusal, Ran, run_reply, records_in, table_in}
+use Rattle.definitions.specs.Calls.{Batch, refusal, Ran}
 use Rattle.definitions.specs.declared.Reply.{Reply}
 use Rattle.plans.specs.Older.{older_plan}
 use Rattle.plans.proofs.Older.{changed_refused}

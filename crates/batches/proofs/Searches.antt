@@ -66,7 +66,7 @@ module _ (r : Rule) (k : ℕ) where
 
 -- where word a of a buffer lies in memory
 abbrev pub address_of : Bor (List Word) → ℕ → ℕ × ℕ
-address_of s a = (s.ptr.0, a * 4 + s.ptr.1)
+address_of s a = (s.ref_ptr.0, a * 4 + s.ref_ptr.1)
 
 -- ---- the line of a row that is unfinished
 module _ (r : Rule) (values : List Word) (rows : ℕ) (bs : Budgets) (q k : ℕ) (one : k < rows) where
