@@ -1,6 +1,6 @@
 -- Flows that agree in what their columns depend on have the same columns. Assumes nothing.
 use mathlib.Core.Path.{◌≡◌, refl, sym, ap, ap₂, subst, ◌∙◌}
-use mathlib.Core.Bool.{Bool, true, false, not, ◌&&◌, ◌||◌}
+use mathlib.Core.Bool.{Bool, not, ◌&&◌, ◌||◌}
 use Prim.Native.Nat.{ℕ, zero, suc, ◌<◌}
 use native.Mathlib.Omega.{arith}
 use Rattle.definitions.specs.Columns.{Flow, some, closure, names, J, outputs, passes, inputs_of, outputs_of}

@@ -9,7 +9,6 @@ use Rattle.definitions.specs.Plan.{plan_of, planned}
 use Rattle.definitions.specs.Pages.{file_of, unpacked}
 use Rattle.definitions.specs.Batch.{Budgets, common, each, states_of, record_size, records_of, count_to, line_size, table_of, most_of}
 use Rattle.definitions.specs.Finder.{most_rows, most_quota}
-use Rattle.definitions.specs.declared.Refusal.{Refusal}
 use Rattle.definitions.specs.declared.Reply.{Reply}
 use Rattle.definitions.specs.declared.Reply.TheVariants.{Done, Refused}
 

@@ -1,7 +1,7 @@
 -- 01, Columns, and K3 of 02: what each block reads, sets and names, which blocks are led to, and the inputs and outputs as the smallest sets.
 -- A set is a test: `s k ≡ true` says that s holds k.
 use Rattle.std.specs.Prelude.{◌≡◌, Bool, true, false, not, ◌&&◌, ◌||◌, List, [], ◌∷◌, ℕ, zero, suc, ◌<◌, eqb, get_or}
-use Rattle.definitions.specs.Rule.{Expr, Cond, Const, Var, Neg, Op, Case, Compare, Not, Join, Stmt, Set, Emit, End, Goto, Jump, Stop, If, Block, Rule, size, block_of}
+use Rattle.definitions.specs.Rule.{Expr, Cond, Const, Var, Neg, Op, Case, Compare, Not, Join, Stmt, Set, Emit, End, Goto, Jump, Stop, If, Rule, size, block_of}
 
 -- ---- what a block reads, sets and names
 

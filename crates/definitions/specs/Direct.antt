@@ -1,7 +1,7 @@
 -- 01, Meaning and A batch, and K4 of 02: the direct run of a rule for one row. It goes by rounds, keeps all variables, and tells where a fault lies.
 use Rattle.std.specs.Prelude.{ℕ, zero, suc, ◌+◌, ◌-◌, Bool, cond, List, [], ◌∷◌, ◌++◌, eqb, ltb, length, set, replicate}
 use Rattle.definitions.specs.Values.{Val, unset, Out, value, fault, also, kind_number}
-use Rattle.definitions.specs.Rule.{Stmt, Set, Emit, End, Goto, Jump, Stop, If, Block, Rule, size, block_of}
+use Rattle.definitions.specs.Rule.{Stmt, Set, Emit, End, Goto, Jump, Stop, If, Rule, size, block_of}
 use Rattle.definitions.specs.Spelling.{cond_size, stmt_size, end_size, body_size, block_place}
 use Rattle.definitions.specs.Meaning.{Where, at_byte, further, eval, holds}
 use Rattle.definitions.specs.declared.Flaw.{Flaw}

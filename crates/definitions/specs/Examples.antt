@@ -2,19 +2,19 @@
 use Rattle.std.specs.Prelude.{ℕ, zero, suc, ◌≡◌, refl, List, [], ◌∷◌, ℤ, pos, neg_ℤ, length, take, drop}
 use Prim.{Unit, tt}
 use Rattle.std.proofs.Common.{add-one, ap}
-use Rattle.definitions.specs.Values.{Word, number, unset, Out, value, fault, kind_number, settled, product, quotient, remainder}
-use Rattle.definitions.specs.Rule.{Add, Subtract, Less, Const, Var, Op, Compare, Set, Emit, Goto, Jump, Stop, If, Block, Rule}
+use Rattle.definitions.specs.Values.{Word, number, unset, value, fault, kind_number, settled, product, quotient, remainder}
+use Rattle.definitions.specs.Rule.{Add, Subtract, Less, Const, Var, Op, Compare, Set, Emit, Goto, Jump, Stop, If, Rule}
 use Rattle.definitions.specs.Grammar.{Got, got, refused, then, twos, expr_at, end_at, block_from, blocks_to, headed, parsed, rule_of}
 use Rattle.definitions.specs.Spelling.{constant_bytes, expr_bytes, cond_bytes, stmt_bytes, end_bytes, in_turn, block_bytes, bytes_of}
 use Rattle.definitions.specs.Meaning.{at_byte, eval}
-use Rattle.definitions.specs.Direct.{State, unfinished, step, steps, exit, walk, start, advance_from, after_from, after}
+use Rattle.definitions.specs.Direct.{unfinished, step, steps, exit, walk, start, advance_from, after_from, after}
 use Rattle.definitions.specs.Columns.{some, reads, end_looks, read_first, sets, goes_to, jumps_to, outputs, from, grown, growths, closure, led_to, inputs_of}
 use Rattle.definitions.specs.Order.{lowest_of, goes_back}
 use Rattle.definitions.specs.Cycles.{cycle_of}
 use Rattle.definitions.specs.Plan.{order_bytes, mask_of, entry_of, entries_to, plan_by, plan_of, same, planned}
-use Rattle.definitions.specs.Pages.{word_sum, check_of, page_body, page_of, pages_to, file_of, all_zero, length_ok, page_at, payload_to, unpacked}
+use Rattle.definitions.specs.Pages.{word_sum, check_of, page_body, page_of, pages_to, file_of}
 use Rattle.definitions.specs.Batch.{common, starts_of, map_from, records_of, count_to, columns_of, lines_from, live_of, most_of}
-use Rattle.definitions.specs.Calls.{Batch, refusal, to_compile, to_write, first_over, ran_reply, run_reply, records_in, table_in}
+use Rattle.definitions.specs.Calls.{Batch, to_write, first_over, ran_reply, run_reply, records_in, table_in}
 use Rattle.definitions.specs.declared.Reply.{Reply}
 use Rattle.definitions.specs.declared.Reply.TheVariants.{Done}
 use Rattle.definitions.specs.declared.Kind.TheVariants.{OutOfRange}

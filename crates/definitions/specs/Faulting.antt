@@ -1,6 +1,6 @@
 -- 02, K4: what a record says of a fault: the operator that stands at its place is the one at fault.
 use Rattle.std.specs.Prelude.{ℕ, ◌+◌, ◌≡◌, List, ◌++◌, ℤ, length}
-use Rattle.definitions.specs.Values.{Val, number, Out, value, fault, negation}
+use Rattle.definitions.specs.Values.{Val, number, value, fault, negation}
 use Rattle.definitions.specs.Rule.{Operator, Expr, Neg, Op}
 use Rattle.definitions.specs.Spelling.{expr_bytes}
 use Rattle.definitions.specs.Meaning.{Where, applied, eval}

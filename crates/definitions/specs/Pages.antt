@@ -1,5 +1,5 @@
 -- 01, Files: a page, a file of pages, and what a file holds.
-use Rattle.std.specs.Prelude.{ℕ, zero, suc, ◌+◌, ◌-◌, ◌*◌, ◌/◌, ◌%◌, Bool, true, false, cond, not, ◌&&◌, ◌||◌, List, [], ◌∷◌, ◌++◌, eqb, ltb, length, take, drop, get_or, replicate}
+use Rattle.std.specs.Prelude.{ℕ, zero, suc, ◌+◌, ◌-◌, ◌*◌, ◌/◌, ◌%◌, Bool, true, false, cond, not, ◌&&◌, List, [], ◌∷◌, ◌++◌, eqb, ltb, length, take, drop, replicate}
 use Rattle.definitions.specs.Grammar.{Got, got, refused, then, between}
 use Rattle.definitions.specs.Plan.{le16}
 pub use Rattle.definitions.specs.Plan.{word_at}

@@ -1,6 +1,6 @@
 -- 01, Columns, the plan, and K5 of 02: its bytes, and which bytes are a plan.
 use Rattle.std.specs.Prelude.{ℕ, zero, suc, ◌+◌, ◌-◌, ◌*◌, ◌/◌, ◌%◌, ◌^◌, Bool, true, false, cond, ◌&&◌, List, [], ◌∷◌, ◌++◌, eqb, leb, length, take, drop, get_or}
-use Rattle.definitions.specs.Rule.{Rule, Block, size}
+use Rattle.definitions.specs.Rule.{Rule, size}
 use Rattle.definitions.specs.Grammar.{Got, got, refused, blocks_to, rule_of, longest, most_blocks}
 use Rattle.definitions.specs.Columns.{Flow, flow_of, J, inputs_of, outputs_of, LC}
 use Rattle.definitions.specs.Paths.{goto_in}

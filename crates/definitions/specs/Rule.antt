@@ -1,5 +1,5 @@
 -- 01, The rule, byte by byte: what a rule is, as a tree. Operators of a kind share a constructor. The tree holds no places.
-use Rattle.std.specs.Prelude.{ℕ, List, [], ◌∷◌, ℤ, length, get_or}
+use Rattle.std.specs.Prelude.{ℕ, List, [], ℤ, length, get_or}
 
 -- tags 04 to 08
 pub data Operator : Type 0 where

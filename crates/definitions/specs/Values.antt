@@ -1,5 +1,5 @@
 -- 01, Meaning: values and words, and what the operators give. Each is its exact result over the integers, then a test of its range.
-use Rattle.std.specs.Prelude.{Bool, true, false, cond, ◌||◌, List, map, ℕ, eqb, ltb, ℤ, pos, negsuc, neg_ℤ, nat_abs, ◌+ℤ◌, ◌-ℤ◌, ◌*ℤ◌}
+use Rattle.std.specs.Prelude.{Bool, false, cond, ◌||◌, List, map, ℕ, eqb, ℤ, pos, negsuc, neg_ℤ, nat_abs, ◌+ℤ◌, ◌-ℤ◌, ◌*ℤ◌}
 use Rattle.std.specs.Int.Signed.{lt_z, quot_z}
 use Rattle.definitions.specs.declared.Kind.{Kind}
 use Rattle.definitions.specs.declared.Kind.TheVariants.{ZeroDivisor, OutOfRange}
