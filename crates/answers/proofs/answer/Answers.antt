@@ -2,7 +2,6 @@
 use Prim.Native.Nat.{ℕ}
 use mathlib.Core.Path.{◌∙◌}
 use native.Mathlib.Omega.{arith}
-use borrow.Author.Rules.{rules}
 use lib.ListN.{length-replicate, length-take}
 use Rattle.definitions.specs.Plan.{longest_plan}
 use Rattle.answers.proofs.Laws.{plan-fits, file-done, file-refused}

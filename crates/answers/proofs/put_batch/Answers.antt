@@ -1,7 +1,6 @@
 -- `answers::put_batch` meets its contract: what the run left, as text.
 use mathlib.Core.Path.{refl, ◌∙◌}
 use native.Mathlib.Omega.{arith}
-use borrow.Author.Rules.{rules}
 use lib.IntN.{pos}
 use lib.ListN.{length-replicate}
 use Rattle.batches.proofs.Exactly.{run_exactly, done-within}

@@ -1,9 +1,7 @@
 -- `answers::put_input` meets its contract: an input that is cut is refused.
 use mathlib.Core.Path.{◌∙◌}
-use native.Mathlib.Omega.{arith}
-use borrow.Author.Rules.{rules}
 use Rattle.readers.proofs.Laws.{told}
-use Rattle.answers.proofs.Laws.{batch-size, cut_text, whole-text}
+use Rattle.answers.proofs.Laws.{cut_text, whole-text}
 use Rattle.answers.proofs.put_input.Goals as goal
 
 pub returns-then-is_cut-clause-out_after : goal.returns-then-is_cut-clause-out_after
