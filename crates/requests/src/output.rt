@@ -1,20 +1,30 @@
 // What is printed of an answer.
-ghost use Rattle.std.specs.Prelude.{◌*◌, ◌≤◌, length};
+ghost use Rattle.std.specs.Prelude.{◌≡◌, ◌*◌, ◌≤◌, ◌%◌, length, take, OnOk};
+ghost use Rattle.std.specs.Io.KnownBytes.{Appends};
+ghost use Rattle.std.specs.Fmt.{decimal, signed_decimal};
+ghost use Rattle.io.specs.Digits.{hex_digit_ascii};
+ghost use Rattle.requests.specs.Text.{reply_text, hex_digits, hex_text, words_text};
 ghost use Rattle.io.specs.Counts.{IsPrefixLen};
 
 use definitions::Reply;
 use std::io;
 use std::io::Write;
 
-pub fn text<W: Write>(to: &mut W, bytes: &[u8]) -> io::Result<()> {
+pub fn text<W: Write>(to: &mut W, bytes: &[u8]) -> io::Result<()>
+    ensures { OnOk result (Appends (W.contents to.old) (W.contents to.new) bytes.now) }
+{
     to.write_all(bytes)
 }
 
-fn number<W: Write>(to: &mut W, n: u64) -> io::Result<()> {
+fn number<W: Write>(to: &mut W, n: u64) -> io::Result<()>
+    ensures { OnOk result (Appends (W.contents to.old) (W.contents to.new) (decimal n)) }
+{
     write!(to, "{n}")
 }
 
-pub fn reply<W: Write>(to: &mut W, r: Reply) -> io::Result<()> {
+pub fn reply<W: Write>(to: &mut W, r: Reply) -> io::Result<()>
+    ensures { OnOk result (Appends (W.contents to.old) (W.contents to.new) (reply_text r)) }
+{
     match r {
         Reply::Done(n) => {
             text(to, b"ok ")?;
@@ -31,7 +41,9 @@ pub fn reply<W: Write>(to: &mut W, r: Reply) -> io::Result<()> {
 
 // ---- bytes in hexadecimal
 
-fn digit(x: u8) -> u8 {
+fn digit(x: u8) -> u8
+    ensures { result ≡ hex_digit_ascii (x % 16) }
+{
     let d = x % 16;
     if d < 10 { 48 + d } else { 87 + d }
 }
@@ -39,6 +51,7 @@ fn digit(x: u8) -> u8 {
 // All bytes, the higher digit of each first, or a dash.
 pub fn hex<W: Write>(to: &mut W, bytes: &[u8]) -> io::Result<()>
     requires { length bytes.now ≤ 8192 }
+    ensures { OnOk result (Appends (W.contents to.old) (W.contents to.new) (hex_text bytes.now)) }
 {
     if bytes.len() == 0 {
         text(to, b"-")
@@ -52,7 +65,8 @@ pub fn hex<W: Write>(to: &mut W, bytes: &[u8]) -> io::Result<()>
 // Their digits to the start of out; the answer is how many there are.
 fn put_hex(bytes: &[u8], out: &mut [u8]) -> usize
     requires { 2 * length bytes.now ≤ length out.old }
-    ensures { IsPrefixLen result out.new }
+    ensures prefix_len { IsPrefixLen result out.new }
+    ensures digits { take result out.new ≡ hex_digits bytes.now }
 {
     let mut i = 0;
     while i < bytes.len() {
@@ -68,7 +82,9 @@ fn put_hex(bytes: &[u8], out: &mut [u8]) -> usize
 // ---- words in decimal
 
 // A word, with its sign.
-fn word<W: Write>(to: &mut W, x: i32) -> io::Result<()> {
+fn word<W: Write>(to: &mut W, x: i32) -> io::Result<()>
+    ensures { OnOk result (Appends (W.contents to.old) (W.contents to.new) (signed_decimal x)) }
+{
     if x < 0 {
         text(to, b"-")?;
     }
@@ -76,7 +92,9 @@ fn word<W: Write>(to: &mut W, x: i32) -> io::Result<()> {
 }
 
 // All words with single spaces between them, or a dash.
-pub fn words<W: Write>(to: &mut W, ws: &[i32]) -> io::Result<()> {
+pub fn words<W: Write>(to: &mut W, ws: &[i32]) -> io::Result<()>
+    ensures { OnOk result (Appends (W.contents to.old) (W.contents to.new) (words_text ws.now)) }
+{
     if ws.len() == 0 {
         text(to, b"-")?;
     }

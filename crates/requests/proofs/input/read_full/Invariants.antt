@@ -1,9 +1,10 @@
--- `requests::input::read_full` stays inside the buffer, and ends.
-use Rattle.std.proofs.Common.{◌-◌, ◌≤◌, length}
+-- `requests::input::read_full` stays inside the buffer, and ends. What it has put there is what the input has lost.
+use Rattle.std.proofs.Common.{◌-◌, ◌≤◌, length, take}
+use Rattle.std.specs.Io.KnownBytes.{Consumes}
 use Rattle.requests.proofs.input.read_full.Given as goal
 
 abbrev pub invariant-loop-done : goal.invariant-loop-done
-invariant-loop-done g l = l.done ≤ length l.initial.buf
+invariant-loop-done g l = (l.done ≤ length l.initial.buf) × Consumes (g.R.Read.remaining l.fn.from) (g.R.Read.remaining l.from) (take l.done l.buf)
 
 abbrev pub decreases-loop-done : goal.decreases-loop-done
 decreases-loop-done g l = length l.initial.buf - l.done
