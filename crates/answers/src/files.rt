@@ -1,19 +1,19 @@
 // The answer to what files hold.
-ghost use Rattle.std.specs.Prelude.{◌≡◌, ◌≢◌, Ok, Err, Some, None, IfOk, IfErr, OnOk, IfSome, take};
+ghost use Rattle.std.specs.Prelude.{◌≡◌, ◌≢◌, Ok, Err, Some, None, IfOk, IfErr, OnOk, IfSome};
 ghost use Rattle.std.specs.Io.KnownBytes.{Appends};
 ghost use Rattle.std.specs.IoError.{error_kind};
 ghost use Rattle.answers.specs.Answer.{answer_to};
 
 use crate::{MOST_INPUT, TEXT_ROOM};
-use std::alloc::Global;
+use inputs::read_full;
 use std::io::{ErrorKind, Print, Read, Write};
 use std::rt::Files;
 use std::{fs, io};
 
 // One byte more than the longest file, and than the longest input: enough to see that there is more.
-const FILE_ROOM: u64 = 4097;
+const FILE_ROOM: usize = 4097;
 
-const INPUT_ROOM: u64 = MOST_INPUT as u64 + 1;
+const INPUT_ROOM: usize = MOST_INPUT + 1;
 
 // What opening a file came to: none where it is not there.
 fn if_there<F>(opened: io::Result<F>) -> io::Result<Option<F>>
@@ -33,18 +33,8 @@ pub fn open<R: Files>(rt: &R, path: &str) -> io::Result<Option<R::File>> {
     if_there(fs::open(rt, path))
 }
 
-// The first bytes of an input, at most as many as `most`.
-fn first_bytes<I: Read>(alloc: Global, input: &mut I, most: u64) -> io::Result<Vec<u8>>
-    ensures { IfOk result (λ bytes. IfSome (I.remaining input.old) (λ xs. bytes.items ≡ take most xs)) }
-{
-    let mut bytes = Vec::new(alloc);
-    input.take(most).read_to_end(&mut bytes)?;
-    Ok(bytes)
-}
-
 // Writes the answer to an input by the rule in a file. Of each it reads no more than shows that it is too long.
 pub fn write_answer<F: Read, I: Read, W: Write>(
-    alloc: Global,
     file: &mut F,
     input: &mut I,
     to: &mut W,
@@ -52,22 +42,20 @@ pub fn write_answer<F: Read, I: Read, W: Write>(
     ensures { OnOk result (IfSome (F.remaining file.old) (λ f. IfSome (I.remaining input.old) (λ s.
         Appends (W.contents to.old) (W.contents to.new) (answer_to f s)))) }
 {
-    let pages = first_bytes(alloc, file, FILE_ROOM)?;
-    let batch = first_bytes(alloc, input, INPUT_ROOM)?;
+    let mut pages = [0u8; FILE_ROOM];
+    let size = read_full(file, &mut pages)?;
+    let mut batch = [0u8; INPUT_ROOM];
+    let length = read_full(input, &mut batch)?;
     let mut out = [0u8; TEXT_ROOM];
-    let n = crate::answer(&pages, &batch, &mut out);
+    let n = crate::answer(&pages[..size], &batch[..length], &mut out);
     to.write_all(&out[..n])
 }
 
 // Prints the answer to an input by the rule in the file at the path. A file that is not there counts as an empty one.
-pub fn print<R: Files + Print + AllocGlobal, I: Read>(
-    rt: &R,
-    path: &str,
-    input: &mut I,
-) -> io::Result<()> {
+pub fn print<R: Files + Print, I: Read>(rt: &R, path: &str, input: &mut I) -> io::Result<()> {
     let mut to = io::writer(rt);
     match open(rt, path)? {
-        Some(mut file) => write_answer(rt.alloc(), &mut file, input, &mut to),
-        None => write_answer(rt.alloc(), &mut io::empty(), input, &mut to),
+        Some(mut file) => write_answer(&mut file, input, &mut to),
+        None => write_answer(&mut io::empty(), input, &mut to),
     }
 }

@@ -1,30 +1,16 @@
 -- Laws of what reads take off an input whose bytes are known.
-use Rattle.std.proofs.Common.{ℕ, zero, suc, ◌+◌, ◌-◌, ◌*◌, ◌<◌, ◌≤◌, ◌≡◌, refl, sym, ap, ◌∙◌, Bool, true, false, List, [], ◌++◌, ltb, leb, length, take, drop, get_or, subst, arith, None, Some, IfSome}
+use Rattle.std.proofs.Common.{ℕ, zero, suc, ◌+◌, ◌-◌, ◌*◌, ◌<◌, ◌≤◌, ◌≡◌, refl, ap, ◌∙◌, Bool, true, false, List, [], ltb, leb, length, take, drop, get_or, arith, None, Some, IfSome}
 use Rattle.std.specs.declared.option.Option.{Option}
-use borrow.Rule.Slice.PartMut.{put_mid, post_of}
 use native.Mathlib.Numerals.{add-one}
 use lib.ListN.{set}
-use lib.Seq.{take-append-le, take-append-add, take-suc-set}
+use lib.Seq.{take-suc-set}
 use Rattle.std.proofs.lemmas.Bool.{ltb-true, ltb-false}
 use Rattle.std.proofs.lemmas.Bool.Decides.{nat_tests}
-use Rattle.std.proofs.lemmas.List.{length-take-le, get_or-take, length-drop, drop-drop, get_or-drop}
-use Rattle.std.specs.Io.KnownBytes.{Consumes}
-use Rattle.std.proofs.KnownBytes.{Consumes-trans}
+use Rattle.std.proofs.lemmas.List.{get_or-take, length-drop, drop-drop, get_or-drop}
 use Rattle.definitions.specs.Values.{Word}
 use Rattle.definitions.specs.Grammar.{constant_in}
-use Rattle.requests.specs.Parts.{number_at, number_of, first_words, first_numbers, Skips}
-
--- ---- a read into the rest of a buffer
-
-into_rest : (a k n : ℕ) (xs ys : List ℕ) → a ≤ length xs → n ≤ length ys → take (a + n) (put_mid a k xs ys) ≡ take a xs ++ take n ys
-into_rest a k n xs ys within fits =
-    let l : length (take a xs) ≡ a = length-take-le a xs within in
-    subst (λ (m : ℕ). take (m + n) (take a xs ++ (ys ++ post_of a k xs)) ≡ take a xs ++ take n ys) l
-    (take-append-add (take a xs) (ys ++ post_of a k xs) n ∙ ap (λ z. take a xs ++ z) (take-append-le n ys (post_of a k xs) fits))
-
-pub read-on : (a b c : Option (List ℕ)) (at k n : ℕ) (xs ys : List ℕ) → at ≤ length xs → n ≤ length ys → Consumes a b (take at xs) → Consumes b c (take n ys)
-    → Consumes a c (take (at + n) (put_mid at k xs ys))
-read-on a b c at k n xs ys within fits p q = subst (Consumes a c) (sym (into_rest at k n xs ys within fits)) (Consumes-trans a b c (take at xs) (take n ys) p q)
+use Rattle.inputs.specs.Reads.{Skips}
+use Rattle.requests.specs.Parts.{number_at, number_of, first_words, first_numbers}
 
 -- ---- words
 

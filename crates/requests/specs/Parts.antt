@@ -1,5 +1,5 @@
 -- What stands in the bytes of an input: numbers and words of four bytes each.
-use Rattle.std.specs.Prelude.{ℕ, zero, suc, ◌+◌, ◌*◌, ◌≡◌, cond, List, [], ◌∷◌, ◌++◌, eqb, ltb, length, drop, get_or, None, Some, Option, ⊤}
+use Rattle.std.specs.Prelude.{ℕ, zero, suc, ◌+◌, ◌*◌, cond, List, [], ◌∷◌, ◌++◌, eqb, ltb, length, get_or}
 use Rattle.definitions.specs.Values.{Word}
 use Rattle.definitions.specs.Grammar.{word_of, constant_in}
 
@@ -20,9 +20,3 @@ first_words s (suc n) = first_words s n ++ (constant_in s (4 * n) ∷ [])
 unfoldable pub first_numbers : List ℕ → ℕ → List ℕ
 first_numbers s zero = []
 first_numbers s (suc n) = first_numbers s n ++ (number_at s (4 * n) ∷ [])
-
--- of an input whose bytes are known, the first n are read
-abbrev pub Skips : ℕ → Option (List ℕ) → Option (List ℕ) → Type 0
-Skips n None new = ⊤
-Skips n (Some xs) None = ⊥
-Skips n (Some xs) (Some ys) = ys ≡ drop n xs

@@ -1,9 +1,10 @@
 // What a request holds, read from the input.
 ghost use Rattle.std.specs.Prelude.{◌≡◌, ◌*◌, ◌≤◌, ◌<◌, true, leb, length, take, IfOk, OnOk, IfSome};
-ghost use Rattle.std.specs.Io.{ReadsAtMost};
-ghost use Rattle.requests.specs.Parts.{number_of, first_words, first_numbers, Skips};
+ghost use Rattle.inputs.specs.Reads.{Skips};
+ghost use Rattle.requests.specs.Parts.{number_of, first_words, first_numbers};
 
 use crate::parts;
+use inputs::read_full;
 use std::io;
 use std::io::Read;
 
@@ -14,23 +15,6 @@ pub const MOST: usize = 8192;
 pub const END: usize = 4294967296;
 
 pub const CUT: usize = 4294967297;
-
-// Reads until buf is full or the input ends, and answers how many bytes it put at the start of buf.
-fn read_full<R: Read>(from: &mut R, buf: &mut [u8]) -> io::Result<usize>
-    ensures bound { ReadsAtMost result buf.new }
-    ensures bytes { IfOk result (λ n. IfSome (R.remaining from.old) (λ xs. take n buf.new ≡ take (length buf.old) xs)) }
-    ensures rest { OnOk result (Skips (length buf.old) (R.remaining from.old) (R.remaining from.new)) }
-{
-    let mut done = 0;
-    while done < buf.len() {
-        let n = from.read(&mut buf[done..])?;
-        if n == 0 {
-            break;
-        }
-        done += n;
-    }
-    Ok(done)
-}
 
 // The next number of four bytes, or END or CUT, which lie past every limit.
 pub fn next_number<R: Read>(from: &mut R) -> io::Result<usize>

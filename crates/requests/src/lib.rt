@@ -9,14 +9,11 @@ mod parts;
 mod runs;
 
 use std::io;
-use std::io::{BufReader, BufWriter, Input, Print, Read, Write};
+use std::io::{Input, Print, Read, Write};
 
 // Serves all requests of standard input, and prints their answers.
-pub fn serve<R: Input + Print + AllocGlobal>(rt: &R) -> io::Result<()> {
-    let mut from = BufReader::new(rt.alloc(), rt.reader())?;
-    let mut to = BufWriter::new(rt.alloc(), io::writer(rt))?;
-    serve_all(&mut from, &mut to)?;
-    to.flush()
+pub fn serve<R: Input + Print>(rt: &R) -> io::Result<()> {
+    serve_all(&mut rt.reader(), &mut io::writer(rt))
 }
 
 // A proved loop has to end, and nothing says that the input does: so it counts up to a number that no input uses up.

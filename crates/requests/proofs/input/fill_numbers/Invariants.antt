@@ -1,6 +1,7 @@
 -- `requests::input::fill_numbers` is safe and ends: the buffer keeps its length, and begins with the numbers passed.
 use Rattle.std.proofs.Common.{◌-◌, ◌*◌, ◌≤◌, ◌≡◌, length, take, IfSome}
-use Rattle.requests.specs.Parts.{first_numbers, Skips}
+use Rattle.inputs.specs.Reads.{Skips}
+use Rattle.requests.specs.Parts.{first_numbers}
 use Rattle.requests.proofs.input.fill_numbers.Given as goal
 
 abbrev pub invariant-loop-i : goal.invariant-loop-i

@@ -1,7 +1,7 @@
--- `requests::input::read_full` stays inside the buffer, and ends. What it has put there is what the input has lost.
+-- `inputs::read_full` stays inside the buffer, and ends. What it has put there is what the input has lost.
 use Rattle.std.proofs.Common.{◌-◌, ◌≤◌, length, take}
 use Rattle.std.specs.Io.KnownBytes.{Consumes}
-use Rattle.requests.proofs.input.read_full.Given as goal
+use Rattle.inputs.proofs.read_full.Given as goal
 
 abbrev pub invariant-loop-done : goal.invariant-loop-done
 invariant-loop-done g l = (l.done ≤ length l.initial.buf) × Consumes (g.R.Read.remaining l.fn.from) (g.R.Read.remaining l.from) (take l.done l.buf)

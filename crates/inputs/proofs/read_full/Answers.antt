@@ -1,7 +1,7 @@
--- `requests::input::read_full`: each read goes on where the one before it ended.
+-- `inputs::read_full`: each read goes on where the one before it ended.
 use Rattle.std.proofs.Common.{◌≤◌, length, arith}
-use Rattle.requests.proofs.Taken.{read-on}
-use Rattle.requests.proofs.input.read_full.Goals as goal
+use Rattle.inputs.proofs.Laws.{read-on}
+use Rattle.inputs.proofs.read_full.Goals as goal
 
 pub loop-done-preserved : goal.loop-done-preserved
 loop-done-preserved g c =
