@@ -1,5 +1,5 @@
 -- What is read of a file and of an input is enough: where there is more, its length alone refuses it.
-use Rattle.std.proofs.Common.{ℕ, ◌+◌, ◌*◌, ◌<◌, ◌≤◌, ◌≡◌, refl, Bool, true, false, List, ltb, length, take, arith}
+use Rattle.std.proofs.Common.{ℕ, ◌+◌, ◌*◌, ◌<◌, ◌≤◌, ◌≡◌, refl, ap, subst, ◌∙◌, Bool, true, false, List, ltb, length, take, arith, Option, Some, None, IfSome, Result, Ok, Err, OnOk}
 use Rattle.std.proofs.lemmas.Bool.{ltb-true, ltb-false}
 use Rattle.std.proofs.lemmas.Bool.Decides.{nat_tests}
 use Rattle.std.proofs.lemmas.List.{length-take-le, take_all}
@@ -60,3 +60,14 @@ reply-cut (Refused f) plan s = refl
 pub answer-cut : (file s : List ℕ) → answer_to (take (most_pages * page_size + 1) file) (take (most_input + 1) s) ≡ answer_to file s
 unfolding answer_to
 answer-cut file s = rw (file-cut file) (reply-cut (reply_in longest_plan (to_compile file)) (bytes_in (to_compile file)) s)
+
+-- what holds of the text of the parts that are read holds of the answer to all
+pub enough : (a b : Option (List ℕ)) (pages batch text : List ℕ) (P : List ℕ → Type 0) → IfSome a (λ f. pages ≡ take (most_pages * page_size + 1) f) → IfSome b (λ s. batch ≡ take (most_input + 1) s)
+    → text ≡ answer_to pages batch → P text → IfSome a (λ f. IfSome b (λ s. P (answer_to f s)))
+enough None b pages batch text P h k e p = tt
+enough (Some f) None pages batch text P h k e p = tt
+enough (Some f) (Some s) pages batch text P h k e p = subst P (e ∙ ap (λ x. answer_to x batch) h ∙ ap (λ x. answer_to (take (most_pages * page_size + 1) f) x) k ∙ answer-cut f s) p
+
+pub on_ok : {A E : Type 0} (r : Result A E) {P Q : Type 0} → (P → Q) → OnOk r P → OnOk r Q
+on_ok (Ok x) f p = f p
+on_ok (Err e) f p = tt
