@@ -1,12 +1,11 @@
 // The answer to what files hold.
-ghost use Rattle.std.specs.Prelude.{◌≡◌, ◌≢◌, Ok, Err, Some, None, IfOk, IfErr, OnOk, IfSome};
+ghost use Rattle.std.specs.Prelude.{OnOk, IfSome};
 ghost use Rattle.std.specs.Io.KnownBytes.{Appends};
-ghost use Rattle.std.specs.IoError.{error_kind};
 ghost use Rattle.answers.specs.Answer.{answer_to};
 
 use crate::{MOST_INPUT, TEXT_ROOM};
 use inputs::read_full;
-use std::io::{ErrorKind, Print, Read, Write};
+use std::io::{Print, Read, Write};
 use std::rt::Files;
 use std::{fs, io};
 
@@ -15,22 +14,9 @@ const FILE_ROOM: usize = 4097;
 
 const INPUT_ROOM: usize = MOST_INPUT + 1;
 
-// What opening a file came to: none where it is not there.
-fn if_there<F>(opened: io::Result<F>) -> io::Result<Option<F>>
-    ensures there { IfOk opened (λ file. result ≡ Ok (Some file)) }
-    ensures absent { IfErr opened (λ e. error_kind e ≡ ErrorKind.NotFound → result ≡ Ok None) }
-    ensures failed { IfErr opened (λ e. error_kind e ≢ ErrorKind.NotFound → result ≡ Err e) }
-{
-    match opened {
-        Ok(file) => Ok(Some(file)),
-        Err(e) if e.kind() == ErrorKind::NotFound => Ok(None),
-        Err(e) => Err(e),
-    }
-}
-
-// Opens a file, or answers none where it is not there.
-pub fn open<R: Files>(rt: &R, path: &str) -> io::Result<Option<R::File>> {
-    if_there(fs::open(rt, path))
+// Opens a file, or answers none where that fails, as where there is no such file.
+pub fn open<R: Files>(rt: &R, path: &str) -> Option<R::File> {
+    fs::open(rt, path).ok()
 }
 
 // Writes the answer to an input by the rule in a file. Of each it reads no more than shows that it is too long.
@@ -51,10 +37,10 @@ pub fn write_answer<F: Read, I: Read, W: Write>(
     to.write_all(&out[..n])
 }
 
-// Prints the answer to an input by the rule in the file at the path. A file that is not there counts as an empty one.
+// Prints the answer to an input by the rule in the file at the path. A file that cannot be opened counts as an empty one.
 pub fn print<R: Files + Print, I: Read>(rt: &R, path: &str, input: &mut I) -> io::Result<()> {
     let mut to = io::writer(rt);
-    match open(rt, path)? {
+    match open(rt, path) {
         Some(mut file) => write_answer(&mut file, input, &mut to),
         None => write_answer(&mut io::empty(), input, &mut to),
     }

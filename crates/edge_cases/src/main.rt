@@ -5,7 +5,7 @@ use std::io;
 
 // The answer to one file of data/ by the rule in another.
 fn case(rt: &HostRuntime, pages: &str, batch: &str) -> io::Result<()> {
-    match answers::open(rt, batch)? {
+    match answers::open(rt, batch) {
         Some(mut file) => answers::print(rt, pages, &mut file),
         None => answers::print(rt, pages, &mut io::empty()),
     }
