@@ -77,7 +77,7 @@ module _ (r : Rule) (n : ℕ) (b : Batch) (out work : List Word) (reply : Reply)
 -- under a plan for a rule, every call is that rule's direct run
 runs : {read : Got Rule} {plan : List ℕ} → PlanFor read plan → RunsAs read plan
 runs p = record {
-  plan_for_lem = p;
+  plan_for = p;
   direct_run = λ b out work reply out' work' e ran. directly p.rule p.end b out work reply out' work' (ap planned e ∙ p.accepted) ran;
 }
 
@@ -97,7 +97,7 @@ module _ (s : List ℕ) (small : Bytes s) (read : Got Rule) (held : read ≡ rul
   row_told : (b : Batch) (out work : List Word) (most : ℕ) (out' work' : List Word) → b.plan ≡ plan → Ran b out work (Done most) out' work'
       → (k : ℕ) → k < b.rows → Tells (Among 0 s) (finish_in (record_at b.quota k out'))
   row_told b out work most out' work' e ran k h =
-      let p = runs_as.plan_for_lem in
+      let p = runs_as.plan_for in
       rw ((runs_as.direct_run b out work (Done most) out' work' e ran).row most k refl h) (row_tells s small p.rule p.end (sym held ∙ p.is) b.quota (budget_of b.budgets k) (values_in (take p.rule.arguments (drop (k * p.rule.arguments) b.values))))
 
 pub rule_told :

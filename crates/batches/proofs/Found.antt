@@ -76,11 +76,11 @@ module _ (plan : List ℕ) (r : Rule) (n : ℕ) (accepted : planned plan ≡ got
         ∙ ap (λ (x : List Word). (address_of a.result (k * record_size q), x)) record-words
 
     -- how many rows before it are unfinished
-    abbrev pub linesBefore : ℕ
-    linesBefore = live_of (states_of r batch.values k batch.budgets q)
+    abbrev pub lines_before : ℕ
+    lines_before = live_of (states_of r batch.values k batch.budgets q)
 
     -- an unfinished row: its line, where it stands in the working buffer
-    pub unfinished-found : goes_on its.finish ≡ true → found_for a ≡ (address_of a.work (linesBefore * line_size (columns r)), line_of r.variables (LC (flow_of r)) k its)
+    pub unfinished-found : goes_on its.finish ≡ true → found_for a ≡ (address_of a.work (lines_before * line_size (columns r)), line_of r.variables (LC (flow_of r)) k its)
     unfolding is_number table_in
     unfinished-found z =
         let c = a.called in

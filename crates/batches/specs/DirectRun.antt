@@ -24,8 +24,8 @@ pub record DirectRun (r : Rule) (b : Batch) (out work : List Word) (reply : Repl
 
 -- the plan is that of the rule that was read, and every call under it is that rule's direct run
 pub record RunsAs (read : Got Rule) (plan : List ℕ) : Type 0 where
-  pub plan_for_lem : PlanFor read plan
-  pub direct_run : (b : Batch) (out work : List Word) (reply : Reply) (out' work' : List Word) → b.plan ≡ plan → Ran b out work reply out' work' → DirectRun plan_for_lem.rule b out work reply out' work'
+  pub plan_for : PlanFor read plan
+  pub direct_run : (b : Batch) (out work : List Word) (reply : Reply) (out' work' : List Word) → b.plan ≡ plan → Ran b out work reply out' work' → DirectRun plan_for.rule b out work reply out' work'
 
 -- 02, K4: how a row ended, by the words of its record
 abbrev pub finish_in : List Word → Finish

@@ -91,18 +91,18 @@ columns r = count_to r.variables (LC (flow_of r))
 -- 13, 14 for the quota, 14 for the lowest row with too high a budget, then 12 for the output and 12 for the working buffer; the answer is the most rounds
 -- that any row began
 unfoldable pub ran_reply : Batch → Rule → ℕ → ℕ → Reply
-ran_reply b r outRoom work_room =
+ran_reply b r out_room work_room =
     cond (ltb most_rows b.rows || (not (eqb (length b.values) (b.rows * r.arguments)) || not (as_many b.rows b.budgets))) (refusal 13 0)
     (cond (ltb most_quota b.quota) (refusal 14 0)
     (cond (some_over (brought b.budgets)) (refusal 14 (first_over (brought b.budgets)))
-    (cond (ltb outRoom (b.rows * record_size b.quota)) (refusal 12 0)
+    (cond (ltb out_room (b.rows * record_size b.quota)) (refusal 12 0)
     (cond (ltb work_room (b.rows * line_size (columns r))) (refusal 12 1)
     (Done (most_of (rows_of b r)))))))
 
 -- 15 comes first
 unfoldable pub run_reply : Batch → Got Rule → ℕ → ℕ → Reply
-run_reply b (got r n) outRoom work_room = ran_reply b r outRoom work_room
-run_reply b (refused k p) outRoom work_room = refusal 15 0
+run_reply b (got r n) out_room work_room = ran_reply b r out_room work_room
+run_reply b (refused k p) out_room work_room = refusal 15 0
 
 -- all records, and the LOOP table
 unfoldable pub records_in : Batch → Got Rule → List Word

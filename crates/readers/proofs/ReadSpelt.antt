@@ -152,8 +152,8 @@ module _ (s : List ℕ) where
       abbrev blocks : Form Block
       blocks = record { keeps = BlockKeeps n v; bytes = block_bytes }
 
-      abbrev allBlocks : Form (List Block)
-      allBlocks = record { keeps = Every (BlockKeeps n v); bytes = in_turn block_bytes }
+      abbrev all_blocks : Form (List Block)
+      all_blocks = record { keeps = Every (BlockKeeps n v); bytes = in_turn block_bytes }
 
       target-read : (at : ℕ) → ReadAs (byte_of (λ t. t < n)) at (target_at n s at)
       target-read at = tested-read (λ t. t < n) (λ t. ltb t n) 7 at (λ t p. ltb-true t n p)
@@ -217,12 +217,12 @@ module _ (s : List ℕ) where
         block_read (suc f) at = block-body (λ m. block_from f ts v s m) (λ m. block_read f m) at (stmt_tag (get_or s at 0)) (stmt_byte (get_or s at 0))
 
       -- ---- the first blocks of a rule
-      blocks-read : (k : ℕ) → ReadAs allBlocks 4 (blocks_to n v s k)
+      blocks-read : (k : ℕ) → ReadAs all_blocks 4 (blocks_to n v s k)
       unfolding blocks_to in_turn Every
       blocks-read zero = (tt, refl)
       blocks-read (suc k) =
           if_then _ _ (blocks_to n v s k) _ (blocks-read k) (λ bs m j.
-          one_more blocks allBlocks 4 (λ x. bs ++ (x ∷ [])) (in_turn block_bytes bs) m (block_at n v s m) j.1 (in_turn_last block_bytes bs) (λ x k. every_append (BlockKeeps n v) bs (x ∷ []) j.0 (k, tt)) (block_read k (length s) m))
+          one_more blocks all_blocks 4 (λ x. bs ++ (x ∷ [])) (in_turn block_bytes bs) m (block_at n v s m) j.1 (in_turn_last block_bytes bs) (λ x k. every_append (BlockKeeps n v) bs (x ∷ []) j.0 (k, tt)) (block_read k (length s) m))
 
       pub blocks-spelt : (k : ℕ) (bs : List Block) (m : ℕ) → blocks_to n v s k ≡ got bs m → Every (BlockKeeps n v) bs × Spelt s 4 (in_turn block_bytes bs) m
       blocks-spelt k bs m e = rw e at (blocks-read k)
