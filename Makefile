@@ -18,8 +18,8 @@ RUN = $(dir $(shell rt doc))../on/$(shell uname -m)/toolchain/bin/qemu-x86_64
 endif
 
 example:
-	rt check tapsquirrel
-	cd crates/tapsquirrel/data && $(RUN) ../../../target/bin/tapsquirrel < ../stdin
+	cd crates/tapsquirrel && rt run < stdin > /dev/null
+	cd crates/tapsquirrel/data && $(RUN) ../out/tapsquirrel < ../stdin
 
 test:
 	.ci/run
@@ -27,8 +27,10 @@ test:
 # made anew only if a crate has changed since
 library: $(LIBRARY)
 
-$(LIBRARY): crates.txt $(shell find crates -name '*.rt' -o -name '*.antt')
-	rt staticlib tap
+$(LIBRARY): crates.txt $(shell find crates -name out -prune -o \( -name '*.rt' -o -name '*.antt' \) -print)
+	cd crates/tap && rt lib
+	mkdir -p $(@D)
+	cp crates/tap/out/libtap.a $@
 
 target/examples/c: examples/c/example.c include/tapsquirrel.h $(LIBRARY)
 	mkdir -p $(@D)

@@ -1,7 +1,7 @@
 /*
  * Tapsquirrel: label rules as recursive query plans.
  *
- * Link with target/staticlib/libtap.a (`rt staticlib tap`), x86-64. Every call is proved to do what the scope
+ * Link with target/staticlib/libtap.a (`make library`), x86-64. Every call is proved to do what the scope
  * document says on every input, so there is nothing that a caller may not pass, but for what C itself asks:
  * a pointer has the number of elements that is passed beside it, also if that is 0 (then it is any pointer
  * but NULL), and no buffer that is written overlaps another. Nothing is allocated and nothing is kept
