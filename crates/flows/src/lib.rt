@@ -61,6 +61,9 @@ fn holds(s: &[u8], from: usize, to: usize, tag: u8, x: u8) -> bool
     false
 }
 
+// The lowest tag of a statement; those of an ending lie above it, and those of what they hold below.
+const STATEMENT: u8 = 0x20;
+
 // Whether variable k is read before it is set, from a place up to another.
 fn reads_first(s: &[u8], from: usize, to: usize, k: u8) -> bool
     requires { to ≤ longest }
@@ -76,7 +79,7 @@ fn reads_first(s: &[u8], from: usize, to: usize, k: u8) -> bool
             return true;
         }
         // the next statement or the ending: a set before it now shields
-        if 0x20 <= tag {
+        if STATEMENT <= tag {
             if setting {
                 return false;
             }

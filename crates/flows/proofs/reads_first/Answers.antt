@@ -16,15 +16,15 @@ returns-then-stands c =
 pub returns-then-setting : goal.returns-then-setting
 returns-then-setting c =
     let a = c.args in
-    first-shielded a.k a.s.now c.loop-at.at a.to c.loop-at.setting _ c.loop-at.invariant (omega arith) c.byte-tag.result c.byte-tag.ensures c.stands.result c.stands.ensures c.if-stands.false c.if-tag-ge32.true c.if-setting.true
+    first-shielded a.k a.s.now c.loop-at.at a.to c.loop-at.setting _ c.loop-at.invariant (omega arith) c.byte-tag.result c.byte-tag.ensures c.stands.result c.stands.ensures c.if-stands.false c.if-tag-ge-STATEMENT.true c.if-setting.true
 
-pub loop-at-smaller-then-tag-ge32 : goal.loop-at-smaller-then-tag-ge32
-loop-at-smaller-then-tag-ge32 c = omega (arith, c.width_of-at.ensures, tag_width_bounds c.byte-tag.result)
+pub loop-at-smaller-then-tag-ge-STATEMENT : goal.loop-at-smaller-then-tag-ge-STATEMENT
+loop-at-smaller-then-tag-ge-STATEMENT c = omega (arith, c.width_of-at.ensures, tag_width_bounds c.byte-tag.result)
 
-pub loop-at-preserved-then-tag-ge32 : goal.loop-at-preserved-then-tag-ge32
-loop-at-preserved-then-tag-ge32 c =
+pub loop-at-preserved-then-tag-ge-STATEMENT : goal.loop-at-preserved-then-tag-ge-STATEMENT
+loop-at-preserved-then-tag-ge-STATEMENT c =
     let a = c.args in
-    first_part a.k a.s.now c.loop-at.at a.to c.loop-at.setting _ c.loop-at.invariant (omega arith) c.byte-tag.result c.byte-tag.ensures c.stands.result c.stands.ensures c.if-stands.false c.width_of-at.result c.width_of-at.ensures c.if-tag-ge32.true c.if-setting.false c.stands-setting.result c.stands-setting.ensures
+    first_part a.k a.s.now c.loop-at.at a.to c.loop-at.setting _ c.loop-at.invariant (omega arith) c.byte-tag.result c.byte-tag.ensures c.stands.result c.stands.ensures c.if-stands.false c.width_of-at.result c.width_of-at.ensures c.if-tag-ge-STATEMENT.true c.if-setting.false c.stands-setting.result c.stands-setting.ensures
 
 pub loop-at-smaller : goal.loop-at-smaller
 loop-at-smaller c = omega (arith, c.width_of-at.ensures, tag_width_bounds c.byte-tag.result)
@@ -32,7 +32,7 @@ loop-at-smaller c = omega (arith, c.width_of-at.ensures, tag_width_bounds c.byte
 pub loop-at-preserved : goal.loop-at-preserved
 loop-at-preserved c =
     let a = c.args in
-    first-inside a.k a.s.now c.loop-at.at a.to c.loop-at.setting _ c.loop-at.invariant (omega arith) c.byte-tag.result c.byte-tag.ensures c.stands.result c.stands.ensures c.if-stands.false c.width_of-at.result c.width_of-at.ensures c.if-tag-ge32.false
+    first-inside a.k a.s.now c.loop-at.at a.to c.loop-at.setting _ c.loop-at.invariant (omega arith) c.byte-tag.result c.byte-tag.ensures c.stands.result c.stands.ensures c.if-stands.false c.width_of-at.result c.width_of-at.ensures c.if-tag-ge-STATEMENT.false
 
 pub returns : goal.returns
 returns c =
