@@ -39,7 +39,3 @@ more_words (x ∷ xs) = space ++ (signed_decimal x ++ more_words xs)
 abbrev pub words_text : List Word → List ℕ
 words_text [] = dash
 words_text (x ∷ xs) = signed_decimal x ++ more_words xs
-
--- a result buffer and a working buffer, each after a bar
-abbrev pub buffers_text : List Word → List Word → List ℕ
-buffers_text out work = (32 ∷ 124 ∷ space) ++ (words_text out ++ ((32 ∷ 124 ∷ space) ++ words_text work))
