@@ -25,16 +25,7 @@ fn feeds(n: usize, edges: &Edges, set: &Blocks, b: usize) -> bool
     requires { (n ≤ most_blocks) × (b < most_blocks) }
     ensures { result ≡ some n (λ t. edge_in edges.now b t && among set.now t) }
 {
-    let mut t = 0;
-    while t < n {
-        if edges[b * BLOCKS + t] {
-            if set[t] {
-                return true;
-            }
-        }
-        t += 1;
-    }
-    false
+    (0..n).any(|t| edges[b * BLOCKS + t] && set[t])
 }
 
 // What a sweep leaves, and whether it added a number.
@@ -107,17 +98,7 @@ fn restarts(n: usize, jumps: &Edges, t: usize) -> bool
     requires { (n ≤ most_blocks) × (t < most_blocks) }
     ensures { result ≡ (eqb t 0 || some n (λ b. edge_in jumps.now b t)) }
 {
-    if t == 0 {
-        return true;
-    }
-    let mut b = 0;
-    while b < n {
-        if jumps[b * BLOCKS + t] {
-            return true;
-        }
-        b += 1;
-    }
-    false
+    t == 0 || (0..n).any(|b| jumps[b * BLOCKS + t])
 }
 
 // J.
