@@ -3,15 +3,16 @@
 --     over-next, over_pair              writes one right after the other are one write
 --     over-start                        a write from the start on
 --     length_over, take-over, drop-over what lies before and beyond a write stays
---     Copied, copy_none, copy_more, fill_more, copy_all   a loop that copies, or fills, element by element
+--     over_mid                          a write to a part, by the library, is one write
 use mathlib.Core.Path.{◌≡◌, refl, sym, ap, ◌∙◌}
 use Prim.Native.Nat.{ℕ, ◌+◌, ◌-◌, ◌≤◌, ◌<◌}
 use native.Mathlib.Nat.{zero-add}
 use native.Mathlib.Omega.{arith}
 use native.Mathlib.Numerals.{add-one}
 use mathlib.Core.List.{List, [], ◌∷◌, ◌++◌, append_assoc}
-use lib.ListN.{length, take, drop, get_or, set, replicate, length-append, length-drop, length-set, length-replicate, get_or-replicate}
-use lib.Seq.{paste, paste-zero, paste-suc, take-length, take_at, drop_at, drop-drop, set_split, length-take-le}
+use lib.ListN.{length, take, drop, set, length-append, length-drop}
+use lib.Seq.{take_at, drop_at, drop-drop, set_split, length-take-le}
+use borrow.Rule.Slice.PartMut.{put_mid}
 use Rattle.buffers.specs.Words.{over}
 
 module _ {A : Type 0} where
@@ -57,26 +58,7 @@ module _ {A : Type 0} where
       let l = length_over d at (a ∷ []) (omega arith) in
       rw (over-set d at a (omega arith)) (over-set (over d at (a ∷ [])) (at + 1) b (omega (arith, l)) ∙ over-next d at (a ∷ []) (at + 1) (b ∷ []) refl (omega arith))
 
-  -- the first i elements of s are put into d₀ from index at on, which gives d: what a loop that copies keeps
-  pub record Copied (d₀ : List A) (at : ℕ) (s d : List A) (i : ℕ) : Type 0 where
-    pub some : i ≤ length s
-    pub long : length d ≡ length d₀
-    pub put : d ≡ paste d₀ at s i
-
-  pub copy_none : {d : List A} {at : ℕ} {s : List A} → Copied d at s d 0
-  copy_none {d} {at} {s} = record { some = omega arith; long = refl; put = paste-zero d at s }
-
-  -- one more element of a copy
-  pub copy_more : {d₀ d s : List A} {at i : ℕ} {v : A} (z : A) → at + i < length d₀ → i < length s → v ≡ get_or s i z → Copied d₀ at s d i → Copied d₀ at s (set d (at + i) v) (i + 1)
-  copy_more {d₀} {d} {s} {at} {i} {v} z h l ev c =
-      record { some = omega arith; long = length-set d (at + i) v ∙ c.long; put = rw (c.put, ev, add-one) (paste-suc d₀ at s i z h l) }
-
-  -- one more element of a fill
-  pub fill_more : {d₀ d : List A} {at i : ℕ} (n : ℕ) (v : A) → at + i < length d₀ → i < n → Copied d₀ at (replicate n v) d i → Copied d₀ at (replicate n v) (set d (at + i) v) (i + 1)
-  fill_more {i = i} n v h l c = copy_more v h (omega (arith, length-replicate n v)) (sym (get_or-replicate n i v v l)) c
-
-  pub copy_all : {d₀ d s : List A} {at i : ℕ} → length s ≤ i → Copied d₀ at s d i → d ≡ over d₀ at s
+  -- a write to the part of k elements from index at on, by the library
+  pub over_mid : (d : List A) (at k : ℕ) (t s : List A) → t ≡ s → k ≡ length s → put_mid at k d t ≡ over d at s
   unfolding over
-  copy_all {s = s} {i = i} h c =
-      let e : i ≡ length s = omega (arith, c.some) in
-      c.put ∙ rw (e, take-length, append_assoc)
+  over_mid d at k t s w e = rw (drop-drop k at d, w, e)

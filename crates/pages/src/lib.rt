@@ -49,7 +49,7 @@ pub fn page_of(src: &[u8], number: u16) -> [u8; PAGE_SIZE]
     let n = src.len() as u16;
     let mut p = [0u8; PAGE_SIZE];
     buffers::put16_at(&mut p, 0, n);
-    buffers::copy_bytes_at(&mut p, 2, src);
+    buffers::copy_at(&mut p, 2, src);
     let c = check(&p, number);
     buffers::put16_at(&mut p, CHECK_PLACE, c);
     p
@@ -95,7 +95,7 @@ pub fn put_file(rule: &[u8], out: &mut [u8])
     while k < pages {
         let part = piece(rule, k);
         let p = page_of(part, k as u16);
-        buffers::copy_bytes_at(out, k * PAGE_SIZE, &p);
+        buffers::copy_at(out, k * PAGE_SIZE, &p);
         k += 1;
     }
 }
@@ -226,7 +226,7 @@ pub fn unpack(file: &[u8], out: &mut [u8])
     while k < pages {
         let p = page_in(file, k);
         let part = payload(p);
-        buffers::copy_bytes_at(out, at, part);
+        buffers::copy_at(out, at, part);
         at += part.len();
         k += 1;
     }

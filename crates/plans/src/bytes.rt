@@ -118,9 +118,9 @@ pub fn lay(
 {
     let entries = head_size(n, 0);
     let head = entries + order.len();
-    buffers::copy_bytes_at(out, 0, &rule[..4]);
+    buffers::copy_at(out, 0, &rule[..4]);
     buffers::put16_at(out, 4, inputs[0]);
     put_entries(out, n, head, places, inputs, outputs, j);
-    buffers::copy_bytes_at(out, entries, order);
-    buffers::copy_bytes_at(out, head, &rule[4..]);
+    buffers::copy_at(out, entries, order);
+    buffers::copy_at(out, head, &rule[4..]);
 }

@@ -117,8 +117,8 @@ fn extract(plan: &[u8], rule: &mut [u8]) -> Taken
     if LONGEST - 4 < bodies {
         return Taken::NotPlan;
     }
-    buffers::copy_bytes_at(rule, 0, &plan[..4]);
-    buffers::copy_bytes_at(rule, 4, &plan[at..]);
+    buffers::copy_at(rule, 0, &plan[..4]);
+    buffers::copy_at(rule, 4, &plan[at..]);
     Taken::Rule(bodies + 4)
 }
 

@@ -24,7 +24,7 @@ fn put(out: &mut [u8], at: usize, s: &[u8]) -> usize
     requires { at + length s.now ≤ length out.old }
     ensures { Put out.old at s.now out.new result }
 {
-    buffers::copy_bytes_at(out, at, s);
+    buffers::copy_at(out, at, s);
     at + s.len()
 }
 

@@ -55,7 +55,7 @@ pub fn read(file: &[u8], out: &mut [u8]) -> Reply
             if out.len() < n {
                 return refuse(12, 0);
             }
-            buffers::copy_bytes_at(out, 0, &rule[..n]);
+            buffers::copy_at(out, 0, &rule[..n]);
             Reply::Done(n)
         }
     }

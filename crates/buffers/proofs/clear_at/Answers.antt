@@ -1,12 +1,14 @@
--- `buffers::clear_at` meets its contract: after i turns the first i of n zeros are put in.
+-- `buffers::clear_at` meets its contract: the part that the library fills is n long.
+use mathlib.Core.Path.{ap, ◌∙◌}
+use Prim.Native.Nat.{ℕ}
 use native.Mathlib.Omega.{arith}
-use lib.IntN.{pos}
-use lib.ListN.{length-replicate}
-use Rattle.buffers.proofs.Laws.{fill_more, copy_all}
+use lib.IntN.{pos, ℤ}
+use lib.ListN.{replicate, length-take, length-drop, length-replicate}
+use Rattle.buffers.proofs.Laws.{over_mid}
 use Rattle.buffers.proofs.clear_at.Goals as goal
 
-pub loop-i-preserved : goal.loop-i-preserved
-loop-i-preserved c = fill_more c.args.n (pos 0) (omega arith) (omega arith) c.loop-i.invariant
-
 pub returns : goal.returns
-returns c = copy_all (omega (arith, length-replicate c.args.n (pos 0))) c.loop-i.invariant
+returns c =
+    over_mid _ _ _ _ _
+    (c.fill.ensures.after (λ y e. e) ∙ ap (λ (m : ℕ). replicate m (pos 0)) (omega (arith, length-take {A = ℤ}, length-drop {A = ℤ})))
+    (omega (arith, length-replicate c.args.n (pos 0)))

@@ -17,8 +17,8 @@ loop-k-preserved c =
     let a = c.args in (
       omega arith,
       (
-        c.copy_bytes_at.auto.dst ∙ c.loop-k.invariant.1.0,
-        page-more a.rule.now a.out.now c.loop-k.out c.copy_bytes_at.new.dst _ c.piece-part.result.now c.loop-k.k c.piece-part.ensures c.page_of-p.ensures (omega arith) c.loop-k.invariant.1.1 c.copy_bytes_at.ensures,
+        c.copy_at.auto.dst ∙ c.loop-k.invariant.1.0,
+        page-more a.rule.now a.out.now c.loop-k.out c.copy_at.new.dst _ c.piece-part.result.now c.loop-k.k c.piece-part.ensures c.page_of-p.ensures (omega arith) c.loop-k.invariant.1.1 c.copy_at.ensures,
       ),
     )
 

@@ -20,8 +20,8 @@ payload-part-requires c =
     let room = length c.args.out.now in
     (c.page_in-p.ensures.1, turn-short file (length file / page_size) c.loop-k.k room (omega arith) (ready file room c.requires) c.page_in-p.result.now c.page_in-p.ensures.0)
 
-pub copy_bytes_at-requires : goal.copy_bytes_at-requires
-copy_bytes_at-requires c =
+pub copy_at-requires : goal.copy_at-requires
+copy_at-requires c =
     let file = c.args.file.now in
     let room = length c.args.out.now in
     omega (arith, turn-fits file (length file / page_size) c.loop-k.k room (omega arith) (ready file room c.requires) c.page_in-p.result.now c.page_in-p.ensures.0 c.payload-part.result.now c.payload-part.ensures)
@@ -45,8 +45,8 @@ loop-k-preserved c =
       (
         omega (arith, ap length m ∙ length-append (bytes_in (payload_to file P l.k)) part),
         (
-          c.copy_bytes_at.auto.dst ∙ l.invariant.1.1.0,
-          turn-over file P l.k (length out) (omega arith) f c.page_in-p.result.now c.page_in-p.ensures.0 part c.payload-part.ensures out l.out c.copy_bytes_at.new.dst l.at refl l.invariant.1.0 l.invariant.1.1.1 c.copy_bytes_at.ensures,
+          c.copy_at.auto.dst ∙ l.invariant.1.1.0,
+          turn-over file P l.k (length out) (omega arith) f c.page_in-p.result.now c.page_in-p.ensures.0 part c.payload-part.ensures out l.out c.copy_at.new.dst l.at refl l.invariant.1.0 l.invariant.1.1.1 c.copy_at.ensures,
         ),
       ),
     )

@@ -14,4 +14,4 @@ returns-then-bodies c = none _ (too_long _ (omega arith) _ c.bodies_at-at.ensure
 
 pub returns : goal.returns
 returns c =
-    all_there _ (omega arith) _ c.bodies_at-at.ensures (omega arith) _ c.requires c.copy_bytes_at.ensures c.copy_bytes_at-2.ensures
+    all_there _ (omega arith) _ c.bodies_at-at.ensures (omega arith) _ c.requires c.copy_at.ensures c.copy_at-2.ensures

@@ -16,4 +16,4 @@ returns-in-Refused c = wrote_no _ _ _ (told c.in-Refused.is c.before.«open».en
 pub returns-else-out-n : goal.returns-else-out-n
 returns-else-out-n c =
     let opened = c.before.«open».ensures in
-    wrote-all _ _ _ (told c.in-Done.is opened.reply) _ (omega arith) (c.copy_bytes_at.ensures ∙ ap (over c.args.out.now 0) (opened.bytes _ c.in-Done.is))
+    wrote-all _ _ _ (told c.in-Done.is opened.reply) _ (omega arith) (c.copy_at.ensures ∙ ap (over c.args.out.now 0) (opened.bytes _ c.in-Done.is))

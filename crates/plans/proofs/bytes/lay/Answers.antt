@@ -8,4 +8,4 @@ pub returns : goal.returns
 returns c =
     λ r ordered laid.
     whole-plan ordered laid c.args.out.now c.head_size-entries.result _ c.requires.some c.requires.header c.requires.fits c.head_size-entries.ensures refl
-    c.copy_bytes_at.ensures c.put16_at.ensures (c.put_entries.ensures r _ (begins (omega (arith, c.head_size-entries.ensures)) laid)) c.copy_bytes_at-2.ensures c.copy_bytes_at-3.ensures
+    c.copy_at.ensures c.put16_at.ensures (c.put_entries.ensures r _ (begins (omega (arith, c.head_size-entries.ensures)) laid)) c.copy_at-2.ensures c.copy_at-3.ensures
