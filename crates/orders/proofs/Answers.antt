@@ -1,19 +1,17 @@
 -- The code's answers of cycles are right, and the only right ones. Assumes nothing.
-use mathlib.Core.Path.{◌≡◌, refl, sym, ap, ◌∙◌}
+use mathlib.Core.Path.{◌≡◌, refl}
 use mathlib.Core.Bool.{Bool, true}
-use mathlib.Core.Logic.{◌↔◌, ⊎_elim}
+use mathlib.Core.Logic.{◌↔◌}
 use Prim.Native.Nat.{ℕ, ◌<◌}
 use native.Mathlib.Omega.{arith}
 use borrow.Author.Tests.{lt-ltb, le-ltb}
-use Rattle.definitions.specs.Paths.{OnCycle, LowestOnCycle}
+use Rattle.std.specs.Prelude.{Option, None, Some}
+use Rattle.definitions.specs.Paths.{OnCycle}
 use Rattle.definitions.specs.Cycles.{cycle_of}
 use Rattle.definitions.specs.Smallest.{Smallest}
-use Rattle.definitions.proofs.Tests.{less_or}
 use Rattle.definitions.proofs.Smallest.{alike}
-use Rattle.definitions.proofs.Paths.{path_from, path_held, held_path}
-use Rattle.definitions.proofs.Cycled.{cycle-at, cycle-none, lowest-one}
-use Rattle.orders.specs.declared.Cycle.{Cycle}
-use Rattle.orders.specs.declared.Cycle.TheVariants.{None, At}
+use Rattle.definitions.proofs.Paths.{path_held, held_path}
+use Rattle.definitions.proofs.Cycled.{cycle-lowest, cycle-free}
 use Rattle.orders.specs.Answers.{First, first_of}
 
 module _ (n : ℕ) (edge : ℕ → ℕ → Bool) where
@@ -22,29 +20,8 @@ module _ (n : ℕ) (edge : ℕ → ℕ → Bool) where
       let k : Smallest n (λ x. edge x b) edge s = alike e (λ c t h i. refl) m in
       (held_path n edge b b s l l k, λ p. path_held n edge s p k.closed)
 
-  at_none : {b : ℕ} → At b ≡ None → ⊥
-  at_none e = let z : ◌≡◌ {A = ℕ} 0 1 = cc in omega arith
-
-  pub first-at : (b : ℕ) → OnCycle n edge b → ((c : ℕ) → c < b → OnCycle n edge c → ⊥) → First n edge (At b)
-  first-at b p f =
-      let here : LowestOnCycle n edge b = record { here = p; lowest = f } in
-      record {
-        at = λ c. (λ e. let q : b ≡ c = cc in rw q at here, λ m. ap At (lowest-one n edge b c here m));
-        none = (λ e. absurd (at_none e), λ k. absurd (k b p));
-      }
-
-  pub first-none : ((c : ℕ) → c < n → OnCycle n edge c → ⊥) → First n edge None
-  first-none f =
-      record {
-        at = λ c. (λ e. absurd (at_none (sym e)), λ m. absurd (f c (path_from n edge m.here) m.here));
-        none = (λ e c p. f c (path_from n edge p) p, λ k. refl);
-      }
-
-  -- it is the only right answer
-  pub first-is : (r : Cycle) → First n edge r → r ≡ first_of n edge
+  -- ---- the answer of a search is the only right one
+  pub first-is : (r : Option ℕ) → First n edge r → r ≡ first_of n edge
   unfolding first_of
-  first-is r f =
-      ⊎_elim
-      (λ h. (f.at (cycle_of n edge)).1 (cycle-at n edge h) ∙ rw (lt-ltb (cycle_of n edge) n h))
-      (λ h. f.none.1 (cycle-none n edge h) ∙ rw (le-ltb (cycle_of n edge) n h))
-      (less_or (cycle_of n edge) n)
+  first-is None h = let e : cycle_of n edge ≡ n = (cycle-free n edge).1 h in rw (e, le-ltb n n (omega arith))
+  first-is (Some b) h = let e = (cycle-lowest n edge b).1 h in rw (e.0, lt-ltb b n e.1)

@@ -97,28 +97,20 @@ fn on_cycle(n: usize, edges: &Edges, b: usize) -> bool
     set[b]
 }
 
-// Whether there is a cycle, and the lowest block that is on one.
-#[derive(Drop)]
-pub enum Cycle {
-    None,
-    At(usize),
-}
-
-pub fn first_cycle(n: usize, edges: &Edges) -> Cycle
+// The lowest block that is on a cycle.
+pub fn first_cycle(n: usize, edges: &Edges) -> Option<usize>
     requires { n ≤ most_blocks }
     ensures { First n (edge_in edges.now) result }
 {
     if rises(n, edges) {
-        return Cycle::None;
+        return None;
     }
-    let mut b = 0;
-    while b < n {
+    for b in 0..n {
         if on_cycle(n, edges, b) {
-            return Cycle::At(b);
+            return Some(b);
         }
-        b += 1;
     }
-    Cycle::None
+    None
 }
 
 // ---- the order of evaluation

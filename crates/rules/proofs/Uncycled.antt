@@ -17,9 +17,6 @@ use Rattle.readers.proofs.Accepted.{rule-in}
 use Rattle.readers.proofs.Places.{rule-header}
 use Rattle.flows.specs.Flow.{Ruled}
 use Rattle.closure.specs.Tables.{edge_in}
-use Rattle.orders.specs.Answers.{First}
-use Rattle.orders.specs.declared.Cycle.{Cycle}
-use Rattle.orders.specs.declared.Cycle.TheVariants.{None, At}
 use Rattle.rules.proofs.FileLaws.{read-got, read-refused}
 use Rattle.definitions.proofs.Cycled.{cycle-none, cycle-lowest, cycle-free}
 use Rattle.definitions.proofs.Ordered.{Rises, rises_no_cycle}
@@ -111,10 +108,10 @@ module _ (s : List ℕ) where
       count : get_or s 3 0 ≡ size is.0
       count = sym (rule-in s is.0 m is.1).blocks_are
 
-      pub tell_none : {c : Cycle} → First (get_or s 3 0) (edge_in gotos) c → c ≡ None → Next m ≡ read_of (rule_of s)
+      pub tell_none : NoCycle (get_or s 3 0) (edge_in gotos) → Next m ≡ read_of (rule_of s)
       unfolding read_of
-      tell_none f h = rw (rule-whole s is.0 m is.1 (none_as (size is.0) (edge_in gotos) (goto_in is.0) (told is.0 m is.1) ((rw count at f).none.0 h)))
+      tell_none h = rw (rule-whole s is.0 m is.1 (none_as (size is.0) (edge_in gotos) (goto_in is.0) (told is.0 m is.1) (rw count at h)))
 
-      pub tell-at : {c : Cycle} → First (get_or s 3 0) (edge_in gotos) c → (b : ℕ) → c ≡ At b → misread 16 b ≡ read_of (rule_of s)
+      pub tell-at : (b : ℕ) → LowestOnCycle (get_or s 3 0) (edge_in gotos) b → misread 16 b ≡ read_of (rule_of s)
       unfolding read_of rule_of
-      tell-at f b h = rw is.1 (rw (cycled is.0 m b (lowest_as (size is.0) (edge_in gotos) (goto_in is.0) (told is.0 m is.1) b (((rw count at f).at b).0 h))))
+      tell-at b h = rw is.1 (rw (cycled is.0 m b (lowest_as (size is.0) (edge_in gotos) (goto_in is.0) (told is.0 m is.1) b (rw count at h))))

@@ -7,7 +7,6 @@ ghost use Rattle.definitions.specs.Calls.{Wrote, to_read, to_write};
 ghost use Rattle.rules.specs.Opened.{Opened};
 
 use definitions::{LONGEST, Read, Reply, misread, refuse};
-use orders::Cycle;
 
 // Whether the bytes are a rule: read to their end, with no cycle of gotos.
 pub fn read_rule(s: &[u8]) -> Read
@@ -20,8 +19,8 @@ pub fn read_rule(s: &[u8]) -> Read
             let gotos = flows::gotos_of(s);
             let blocks = s[3] as usize;
             match orders::first_cycle(blocks, &gotos) {
-                Cycle::None => Read::Next(n),
-                Cycle::At(b) => misread(16, b),
+                None => Read::Next(n),
+                Some(b) => misread(16, b),
             }
         }
     }

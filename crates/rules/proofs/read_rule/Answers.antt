@@ -23,8 +23,8 @@ returns-in-Refused c =
 
 pub returns-in-None : goal.returns-in-None
 returns-in-None c =
-    tell_none _ _ (told c.read_tree.ensures c.in-Next.is) c.requires c.gotos_of-gotos.result c.gotos_of-gotos.ensures c.first_cycle.ensures c.in-None.is
+    tell_none _ _ (told c.read_tree.ensures c.in-Next.is) c.requires c.gotos_of-gotos.result c.gotos_of-gotos.ensures c.in-None.ensures
 
-pub returns-in-At : goal.returns-in-At
-returns-in-At c =
-    c.misread.ensures ∙ tell-at _ _ (told c.read_tree.ensures c.in-Next.is) c.requires c.gotos_of-gotos.result c.gotos_of-gotos.ensures c.first_cycle.ensures _ c.in-At.is
+pub returns-in-Some : goal.returns-in-Some
+returns-in-Some c =
+    c.misread.ensures ∙ tell-at _ _ (told c.read_tree.ensures c.in-Next.is) c.requires c.gotos_of-gotos.result c.gotos_of-gotos.ensures _ c.in-Some.ensures
