@@ -1,10 +1,8 @@
 -- 01, Meaning: values and words, and what the operators give. Each is its exact result over the integers, then a test of its range.
-use Rattle.std.specs.Prelude.{Bool, false, cond, ◌||◌, List, map, ℕ, eqb, ℤ, pos, negsuc, neg_ℤ, nat_abs, ◌+ℤ◌, ◌-ℤ◌, ◌*ℤ◌}
+use Rattle.std.specs.Prelude.{Bool, false, cond, ◌||◌, List, map, Result, Ok, Err, ℕ, eqb, ℤ, pos, negsuc, neg_ℤ, nat_abs, ◌+ℤ◌, ◌-ℤ◌, ◌*ℤ◌}
 use Rattle.std.specs.Int.Signed.{lt_z, quot_z}
 use Rattle.definitions.specs.declared.Kind.{Kind}
 use Rattle.definitions.specs.declared.Kind.TheVariants.{ZeroDivisor, OutOfRange}
-use Rattle.definitions.specs.declared.Outcome.{Outcome}
-use Rattle.definitions.specs.declared.Outcome.TheVariants.{Value, Fault}
 
 -- ---- values and words
 
@@ -51,9 +49,9 @@ also (fault k) f = fault k
 -- ---- the operators, over the integers: a fault is told by its kind
 
 -- the answer of the code for each case
-abbrev pub outcome_of : Out Kind ℤ → Outcome
-outcome_of (value z) = Value z
-outcome_of (fault k) = Fault k
+abbrev pub outcome_of : Out Kind ℤ → Result ℤ Kind
+outcome_of (value z) = Ok z
+outcome_of (fault k) = Err k
 
 -- the ends of the range
 abbrev pub lowest : ℤ

@@ -29,25 +29,18 @@ pub const DEPTH: u8 = 8;
 
 pub const LEVELS: u8 = 4;
 
-// Why an operator has no value.
-#[derive(Drop)]
+// Why an operator has no value, as the status of a row that ends so.
+#[derive(Clone, Copy, Debug, PartialEq, Eq)]
 pub enum Kind {
-    ZeroDivisor,
-    OutOfRange,
+    ZeroDivisor = 2,
+    OutOfRange = 3,
 }
 
 // A fault, handed up whole: why, and the offset of its operator's tag in the rule.
-#[derive(Drop)]
+#[derive(Clone, Copy, Debug, PartialEq, Eq)]
 pub struct Flaw {
     pub kind: Kind,
     pub place: u16,
-}
-
-// What an operator comes to.
-#[derive(Drop)]
-pub enum Outcome {
-    Value(i32),
-    Fault(Kind),
 }
 
 // How a row ended, or that it has not; and where, for a fault.
@@ -109,10 +102,7 @@ pub fn stopped() -> Finish
 fn kind_number(k: Kind) -> u8
     ensures { result ≡ kind_number k }
 {
-    match k {
-        Kind::ZeroDivisor => 2,
-        Kind::OutOfRange => 3,
-    }
+    k as u8
 }
 
 pub fn faulted(f: Flaw) -> Finish

@@ -9,6 +9,7 @@ use lib.Signed.{mag}
 use mathlib.Core.Path.{◌≡◌, refl, sym, ◌∙◌}
 use mathlib.Core.Bool.{Bool}
 use mathlib.Core.List.{List}
+use Rattle.std.specs.Prelude.{Result}
 use Rattle.definitions.specs.Values.{Word, Val, number, values_in, Out, value, fault, also, outcome_of}
 use Rattle.definitions.specs.Rule.{Expr, Cond}
 use Rattle.definitions.specs.Grammar.{Got, got, refused}
@@ -16,7 +17,6 @@ use Rattle.definitions.specs.Meaning.{at_byte, handed_up, eval, holds}
 use Rattle.definitions.specs.Spelling.{expr_size}
 use Rattle.definitions.specs.declared.Kind.{Kind}
 use Rattle.definitions.specs.declared.Flaw.{Flaw}
-use Rattle.definitions.specs.declared.Outcome.{Outcome}
 use Rattle.evaluators.specs.Answer.{Readable, placed, value_at, verdict_at, both_at, answer, holding, answers}
 use Rattle.evaluators.specs.declared.Evaluated.{Evaluated}
 use Rattle.evaluators.specs.declared.Verdict.{Verdict}
@@ -39,7 +39,7 @@ pub is-got : {A : Type 0} (p : Got A) (a : A) (n : ℕ) → p ≡ got a n → Re
 unfolding Readable
 is-got p a n e = rw e tt
 
-pub placed-value : (z : Out Kind ℤ) (o : Outcome) (at n : ℕ) → o ≡ outcome_of z → placed o at n ≡ value_at (handed_up (at_byte at) z) n
+pub placed-value : (z : Out Kind ℤ) (o : Result ℤ Kind) (at n : ℕ) → o ≡ outcome_of z → placed o at n ≡ value_at (handed_up (at_byte at) z) n
 unfolding placed
 placed-value (value x) o at n e = rw e
 placed-value (fault k) o at n e = rw e

@@ -1,13 +1,13 @@
 -- The evaluators' answers, as the definitions have them.
-use Rattle.std.specs.Prelude.{ℕ, ◌+◌, ◌≤◌, ◌≡◌, length, Bool, cond, List}
+use Rattle.std.specs.Prelude.{ℕ, ◌+◌, ◌≤◌, ◌≡◌, length, Bool, cond, List, Result, Ok, Err, ℤ}
 use Rattle.definitions.specs.Values.{Word, Val, as_word, values_in, Out, value, fault, also}
 use Rattle.definitions.specs.Rule.{Expr, Cond, Case}
 use Rattle.definitions.specs.Grammar.{Got, got, refused, then, two, longest}
 use Rattle.definitions.specs.Meaning.{at_byte, flaw, eval, holds}
 use Rattle.definitions.specs.Spelling.{expr_size}
+use Rattle.definitions.specs.declared.Kind.{Kind}
 use Rattle.definitions.specs.declared.Kind.TheVariants.{OutOfRange}
 use Rattle.definitions.specs.declared.Flaw.{Flaw}
-use Rattle.definitions.specs.declared.Outcome.{Outcome}
 use Rattle.evaluators.specs.declared.Evaluated.{Evaluated}
 use Rattle.evaluators.specs.declared.Verdict.{Verdict}
 use Rattle.evaluators.specs.declared.Both.{Both}
@@ -22,9 +22,9 @@ Readable (got a n) = Unit {0}
 Readable (refused k p) = ⊥
 
 -- what the answer of the operator at a place is, with the place after all of it: its fault is handed up
-unfoldable pub placed : Outcome → ℕ → ℕ → Evaluated
-placed (Outcome.Value x) at n = Evaluated.Value x n
-placed (Outcome.Fault k) at n = Evaluated.Fault (flaw (at_byte at) k)
+unfoldable pub placed : Result ℤ Kind → ℕ → ℕ → Evaluated
+placed (Ok x) at n = Evaluated.Value x n
+placed (Err k) at n = Evaluated.Fault (flaw (at_byte at) k)
 
 -- the answer of the code for each case, with the place after what was worked out
 abbrev pub value_at : Out Flaw Val → ℕ → Evaluated

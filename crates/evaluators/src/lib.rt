@@ -12,7 +12,7 @@ ghost use Rattle.values.specs.Tags.{operator_of, joint_of};
 ghost use Rattle.evaluators.specs.Answer.{Sized, Readable, placed, value_at, answer, holding, pairs, answers, picked, case_from};
 ghost use Rattle.evaluators.specs.declared.Evaluated.{Evaluated};
 
-use definitions::{Flaw, LONGEST, Outcome, VARIABLES};
+use definitions::{Flaw, Kind, LONGEST, VARIABLES};
 use tokens::skip;
 
 // The bytes of a rule, with any bytes after them.
@@ -66,12 +66,12 @@ fn eval_var(s: &Rule, at: usize, vars: &Vars) -> Evaluated
 }
 
 // What the operator at `at` gave, with the place after all of it: its fault is handed up, with the place of its tag.
-fn at_place(o: Outcome, at: u16, n: usize) -> Evaluated
+fn at_place(o: Result<i32, Kind>, at: u16, n: usize) -> Evaluated
     ensures { result ≡ placed o at n }
 {
     match o {
-        Outcome::Value(x) => Evaluated::Value(x, n),
-        Outcome::Fault(k) => Evaluated::Fault(Flaw { kind: k, place: at }),
+        Ok(x) => Evaluated::Value(x, n),
+        Err(kind) => Evaluated::Fault(Flaw { kind, place: at }),
     }
 }
 

@@ -1,117 +1,59 @@
 -- Laws of the integers that the proofs share: which exact results fit a width, and what a result in range settles to.
 use mathlib.Core.Path.{◌≡◌, refl, sym, ap, ◌∙◌}
-use mathlib.Core.Bool.{Bool, true, false, cond}
-use Prim.Native.Nat.{ℕ, zero, suc, ◌+◌, ◌-◌, ◌*◌, ◌/◌, ◌≤◌, ◌<◌}
-use native.Mathlib.Nat.{mul-le-mul, mul-zero, div-le_self, div-one, div-le_of_le-mul, mod-add-div}
+use mathlib.Core.Bool.{Bool, true, false, cond, ◌||◌}
+use Prim.Native.Nat.{ℕ, zero, suc, ◌+◌, ◌*◌, ◌<◌}
+use native.Mathlib.Nat.{mul-zero, mod-add-div}
 use native.Mathlib.Omega.{arith}
-use lib.Dec.{ltb, eqb}
-use lib.IntN.{ℤ, pos, negsuc, neg_ℤ, nat_abs, sub_ℕ, ◌+ℤ◌, ◌-ℤ◌, ◌*ℤ◌, +ℤ_idl, neg_ℤ-+ℤ}
-use lib.Signed.{mag, lt_z, quot_z, rem_z, mag_rem, nat_abs-le}
-use mir.Syntax.{w32, w64}
+use lib.IntN.{ℤ, pos, negsuc, neg_ℤ, ◌-ℤ◌, ◌*ℤ◌, neg_ℤ-+ℤ}
+use lib.Signed.{lt_z, quot_z, rem_z, mag_rem}
+use mir.Syntax.{w32}
 use mir.Val.{SFits, of_z, to_z}
-use mir.Facts.{sfits_widen, to_z-of_z}
+use mir.Facts.{to_z-of_z}
 use mir.ValLaws.{sfits_le}
-use borrow.Author.Rules.{rules}
-use borrow.Author.Tests.{ltb-false, lt-ltb, le-ltb, eqb-true, eqb-false, eq-eqb, ne_eqb}
-use Rattle.definitions.specs.Values.{Out, value, outcome_of, is_equal, settled, divided, quotient, remainder, lowest, highest}
+use borrow.Author.Tests.{ltb-false, lt-ltb, le-ltb, ne_eqb}
+use Rattle.definitions.specs.Values.{Out, value, fault, outcome_of, settled, divided, remainder, lowest, highest}
 use Rattle.definitions.specs.Grammar.{twos}
 use Rattle.definitions.specs.declared.Kind.{Kind}
 use Rattle.definitions.specs.declared.Kind.TheVariants.{ZeroDivisor, OutOfRange}
-use Rattle.definitions.specs.declared.Outcome.{Outcome}
-use Rattle.definitions.specs.declared.Outcome.TheVariants.{Value, Fault}
-
--- ---- the size of a negation, a sum and a product
-abs_neg : (z : ℤ) → nat_abs (neg_ℤ z) ≤ nat_abs z
-abs_neg (pos zero) = omega arith
-abs_neg (pos (suc n)) = omega arith
-abs_neg (negsuc n) = omega arith
-
-abs_cond : (b : Bool) (m n k : ℕ) → m < k → n ≤ k → nat_abs (cond b (negsuc m) (pos n)) ≤ k
-abs_cond true m n k p q = p
-abs_cond false m n k p q = q
-
-abs_sub : (a b : ℕ) → nat_abs (sub_ℕ a (suc b)) ≤ a + suc b
-abs_sub a b = abs_cond (ltb a (suc b)) (suc b - suc a) (a - suc b) (a + suc b) (omega arith) (omega arith)
-
-abs_sum : (x y : ℤ) → nat_abs (x +ℤ y) ≤ nat_abs x + nat_abs y
-abs_sum (pos a) (pos b) = omega arith
-abs_sum (pos a) (negsuc b) = abs_sub a b
-abs_sum (negsuc a) (pos b) = omega (arith, abs_sub b a)
-abs_sum (negsuc a) (negsuc b) = omega arith
-
-abs_product : (x y : ℤ) → nat_abs (x *ℤ y) ≤ nat_abs x * nat_abs y
-abs_product (pos a) (pos b) = omega arith
-abs_product (pos a) (negsuc b) = abs_neg (pos (a * suc b))
-abs_product (negsuc a) (pos b) = abs_neg (pos (suc a * b))
-abs_product (negsuc a) (negsuc b) = omega arith
-
--- ---- what is exact at 32 bits fits 64
-mag_abs : (z : ℤ) → mag z ≤ nat_abs z
-mag_abs (pos n) = omega arith
-mag_abs (negsuc n) = omega arith
-
-pub wide : {z : ℤ} → SFits w32 z → SFits w64 z
-wide f = sfits_widen tt f
-
-module _ (x y : ℤ) (f : SFits w32 x) (g : SFits w32 y) where
-  pub sum_fits : SFits w64 (x +ℤ y)
-  sum_fits = omega (arith, mag_abs (x +ℤ y), abs_sum x y, nat_abs-le x f.sfits, nat_abs-le y g.sfits)
-
-  pub difference-fits : SFits w64 (x -ℤ y)
-  difference-fits = omega (arith, mag_abs (x -ℤ y), abs_sum x (neg_ℤ y), abs_neg y, nat_abs-le x f.sfits, nat_abs-le y g.sfits)
-
-  pub product-fits : SFits w64 (x *ℤ y)
-  product-fits = omega (arith, mag_abs (x *ℤ y), abs_product x y, mul-le-mul (nat_abs-le x f.sfits) (nat_abs-le y g.sfits))
+use Rattle.std.specs.Prelude.{Option, Some, None, Result, ok_or}
+use Rattle.std.specs.Option.{SomeIff}
 
 -- ---- what a number settles to
-pub in_range : (z : ℤ) → lt_z z lowest ≡ false → lt_z highest z ≡ false → SFits w32 z
+in_range : (z : ℤ) → lt_z z lowest ≡ false → lt_z highest z ≡ false → SFits w32 z
 in_range (pos n) p q = omega (arith, ltb-false 2147483647 n q)
 in_range (negsuc n) p q = omega (arith, ltb-false 2147483647 n p)
 
-pub settled-fits : {z : ℤ} → SFits w32 z → settled z ≡ value z
+settled-fits : {z : ℤ} → SFits w32 z → settled z ≡ value z
 unfolding settled
 settled-fits {z = pos n} f = simp (le-ltb 2147483647 n (omega arith))
 settled-fits {z = negsuc n} f = simp (le-ltb 2147483647 n (omega arith))
 
-pub ruleset exact = (rules, wide, sum_fits, difference-fits, product-fits, +ℤ_idl)
-
--- ---- numbers and their bits
-eqb_iff : (a b c d : ℕ) → (a ≡ b → c ≡ d) → (c ≡ d → a ≡ b) → eqb a b ≡ eqb c d
-eqb_iff a b c d f g = go (eqb c d) refl
+settled-out : {z : ℤ} → (SFits w32 z → ⊥) → settled z ≡ fault OutOfRange
+unfolding settled
+settled-out {z} h = go (lt_z z lowest) (lt_z highest z) refl refl
   where
-    go : (t : Bool) → eqb c d ≡ t → eqb a b ≡ t
-    go true e = eq-eqb a b (g (eqb-true c d e))
-    go false e = ne_eqb a b (λ p. eqb-false c d e (f p))
+    go : (s t : Bool) → lt_z z lowest ≡ s → lt_z highest z ≡ t → cond (s || t) (fault OutOfRange) (value z) ≡ fault OutOfRange
+    go true t p q = refl
+    go false true p q = refl
+    go false false p q = absurd (h (in_range z p q))
 
--- two numbers are equal where their bits are
-pub equal_bits : (x y : ℤ) → SFits w32 x → SFits w32 y → eqb (of_z w32 x) (of_z w32 y) ≡ is_equal x y
-equal_bits (pos a) (pos b) f g = refl
-equal_bits (pos a) (negsuc b) f g = ne_eqb a (4294967296 - suc b) (λ e. omega arith)
-equal_bits (negsuc a) (pos b) f g = ne_eqb (4294967296 - suc a) b (λ e. omega arith)
-equal_bits (negsuc a) (negsuc b) f g = eqb_iff (4294967296 - suc a) (4294967296 - suc b) a b (λ e. omega arith) (λ e. omega arith)
+-- an operator of the library that gives what is in range, and else `None`
+pub settles : (z : ℤ) (o : Option ℤ) {r : Result ℤ Kind} → SomeIff o (SFits w32 z) z → r ≡ ok_or o OutOfRange → r ≡ outcome_of (settled z)
+settles z (Some x) h e = rw (e, h.1) (ap outcome_of (sym (settled-fits h.0)))
+settles z None h e = rw e (ap outcome_of (sym (settled-out h)))
 
 -- ---- quotient and remainder
--- the number that has the bits n
-pub named : {z : ℤ} {n : ℕ} → SFits w32 z → of_z w32 z ≡ n → z ≡ to_z w32 n
-named f e = sym (to_z-of_z f) ∙ ap (to_z w32) e
+pub by_zero : {y : ℤ} (o : Out Kind ℤ) → SFits w32 y → of_z w32 y ≡ 0 → divided y o ≡ fault ZeroDivisor
+by_zero {y} o f e = rw (sym (to_z-of_z f) ∙ ap (to_z w32) e)
 
-nonzero : (y : ℤ) → (of_z w32 y ≡ 0 → ⊥) → eqb (nat_abs y) 0 ≡ false
-nonzero (pos n) h = ne_eqb n 0 h
-nonzero (negsuc n) h = ne_eqb (suc n) 0 (λ e. omega arith)
+pub by-other : (y : ℤ) {o : Out Kind ℤ} → (of_z w32 y ≡ 0 → ⊥) → divided y o ≡ o
+by-other (pos n) h = rw (ne_eqb n 0 h)
+by-other (negsuc n) h = rw (ne_eqb (suc n) 0 (λ e. omega arith))
 
-mag_neg : (q : ℕ) → mag (neg_ℤ (pos q)) ≤ q - 1
-mag_neg zero = omega arith
-mag_neg (suc q) = omega arith
-
--- a quotient fits, but for the least number by -1
-pub quotient_fits : (x y : ℤ) → SFits w32 x → (of_z w32 x ≡ 2147483648 → of_z w32 y ≡ 4294967295 → ⊥) → SFits w32 (quot_z x y)
-quotient_fits (pos a) (pos b) f h = omega (arith, div-le_self a b)
-quotient_fits (pos a) (negsuc b) f h = omega (arith, mag_neg (a / suc b), div-le_self a (suc b))
-quotient_fits (negsuc a) (pos b) f h = omega (arith, mag_neg (suc a / b), div-le_self (suc a) b)
-quotient_fits (negsuc a) (negsuc zero) f h =
-    let k : a ≡ 2147483647 → ⊥ = λ e. h (omega arith) refl in
-    omega (arith, div-one (suc a))
-quotient_fits (negsuc a) (negsuc (suc b)) f h = omega (arith, div-le_of_le-mul (suc (suc b)) {m = suc a} {n = 1073741824} (omega arith))
+-- of two things that an operator asks, one is known
+pub asks_one : {A : Type 0} (P : Type 0) (z : ℤ) (o : Option ℤ) → A → SomeIff o (A × P) z → SomeIff o P z
+asks_one P z (Some x) a h = (h.0.1, h.1)
+asks_one P z None a h = λ p. h (a, p)
 
 less : (a n r : ℕ) → r + n ≡ a → pos a -ℤ pos n ≡ pos r
 less a zero r e = ap pos (omega arith)
@@ -135,40 +77,12 @@ remainder_law (pos a) (negsuc b) = rw neg_times_neg (less a _ _ (mod-add-div a (
 remainder_law (negsuc a) (pos b) = rw times_neg (more a _ _ (mod-add-div (suc a) b))
 remainder_law (negsuc a) (negsuc b) = more a _ _ (mod-add-div (suc a) (suc b))
 
-pub remainder-fits : (x y : ℤ) → SFits w32 x → SFits w32 (rem_z x y)
-remainder-fits x y f = sfits_le (mag_rem x y) f
-
--- an operator that divides: what its exact result is, and what it gives at the corner
-pub record Divides (op : ℤ → ℤ → Out Kind ℤ) (exact : ℤ → ℤ → ℤ) (corner : Outcome) : Type 0 where
-  pub is : (x y : ℤ) → op x y ≡ divided y (settled (exact x y))
-  pub at_corner : corner ≡ outcome_of (op lowest (negsuc 0))
-
-pub quotients : Divides quotient quot_z (Fault OutOfRange)
-unfolding settled quotient
-quotients = record { is = λ x y. refl; at_corner = refl }
-
-pub remainders : Divides remainder rem_z (Value (pos 0))
-unfolding settled remainder
-remainders = record { is = λ x y. rw remainder_law; at_corner = refl }
-
-module _ {op : ℤ → ℤ → Out Kind ℤ} {exact : ℤ → ℤ → ℤ} {corner : Outcome} (d : Divides op exact corner) {x y : ℤ} (f : SFits w32 x) (g : SFits w32 y) where
-  pub by_zero_lem : of_z w32 y ≡ 0 → Fault ZeroDivisor ≡ outcome_of (op x y)
-  by_zero_lem e = rw (d.is x y, named g e)
-
-  pub by_corner : of_z w32 x ≡ 2147483648 → of_z w32 y ≡ 4294967295 → corner ≡ outcome_of (op x y)
-  by_corner p q = rw (named f p, named g q) d.at_corner
-
-  pub by-other : (of_z w32 y ≡ 0 → ⊥) → SFits w32 (exact x y) → Value (exact x y) ≡ outcome_of (op x y)
-  by-other h e = rw (d.is x y, nonzero y h) (ap outcome_of (sym (settled-fits e)))
+-- what an operator leaves, in range
+pub remains : (x y : ℤ) → SFits w32 x → (of_z w32 y ≡ 0 → ⊥) → remainder x y ≡ value (rem_z x y)
+unfolding remainder
+remains x y f h = by-other y h ∙ ap settled (remainder_law x y) ∙ settled-fits (sfits_le (mag_rem x y) f)
 
 -- ---- two's complement
-pub twos-low : {n : ℕ} → n < 2147483648 → twos n ≡ pos n
+pub twos_is : (n : ℕ) → n < 4294967296 → to_z w32 n ≡ twos n
 unfolding twos
-twos-low {n} h = rw (lt-ltb n 2147483648 h)
-
-pub twos-high : {n : ℕ} → 2147483648 ≤ n → twos n ≡ pos n -ℤ pos 4294967296
-unfolding twos
-twos-high {n} h = rw (le-ltb n 2147483648 h)
-
-pub high_fits : (n : ℕ) → 2147483648 ≤ n → n < 4294967296 → SFits w32 (pos n -ℤ pos 4294967296)
-high_fits n h k = rw (lt-ltb n 4294967296 k) (omega arith)
+twos_is n h = simp (lt-ltb n 4294967296 h)

@@ -7,17 +7,7 @@ ghost use Rattle.definitions.specs.Meaning.{applied, compared, decided};
 ghost use Rattle.definitions.specs.Grammar.{word_of, twos, constant_in};
 ghost use Rattle.values.specs.Tags.{operator_of, relation_of, joint_of};
 
-use definitions::{Kind, Outcome};
-
-// The ends of the range, as an exact result is held against them.
-const LOWEST: i64 = -2147483648;
-
-const HIGHEST: i64 = 2147483647;
-
-// The corner of division: the first of these by the second has no quotient in range.
-const LEAST: i32 = -2147483648;
-
-const MINUS_ONE: i32 = -1;
+use definitions::Kind;
 
 // ---- the comparisons
 
@@ -35,78 +25,53 @@ pub fn equal(x: i32, y: i32) -> bool
 
 // ---- the operators
 
-// The exact result z, where it lies in the range.
-fn settle(z: i64) -> Outcome
-    ensures { result ≡ outcome_of (settled z) }
-{
-    if z < LOWEST {
-        Outcome::Fault(Kind::OutOfRange)
-    } else if HIGHEST < z {
-        Outcome::Fault(Kind::OutOfRange)
-    } else {
-        let v = z as i32;
-        Outcome::Value(v)
-    }
-}
-
-pub fn negate(x: i32) -> Outcome
+pub fn negate(x: i32) -> Result<i32, Kind>
     ensures { result ≡ outcome_of (negation x) }
 {
-    settle(-(x as i64))
+    x.checked_neg().ok_or(Kind::OutOfRange)
 }
 
-pub fn add(x: i32, y: i32) -> Outcome
+pub fn add(x: i32, y: i32) -> Result<i32, Kind>
     ensures { result ≡ outcome_of (sum x y) }
 {
-    settle((x as i64) + (y as i64))
+    x.checked_add(y).ok_or(Kind::OutOfRange)
 }
 
-pub fn subtract(x: i32, y: i32) -> Outcome
+pub fn subtract(x: i32, y: i32) -> Result<i32, Kind>
     ensures { result ≡ outcome_of (difference x y) }
 {
-    settle((x as i64) - (y as i64))
+    x.checked_sub(y).ok_or(Kind::OutOfRange)
 }
 
-pub fn multiply(x: i32, y: i32) -> Outcome
+pub fn multiply(x: i32, y: i32) -> Result<i32, Kind>
     ensures { result ≡ outcome_of (product x y) }
 {
-    settle((x as i64) * (y as i64))
+    x.checked_mul(y).ok_or(Kind::OutOfRange)
 }
 
-pub fn divide(x: i32, y: i32) -> Outcome
+pub fn divide(x: i32, y: i32) -> Result<i32, Kind>
     ensures { result ≡ outcome_of (quotient x y) }
 {
     if y == 0 {
-        return Outcome::Fault(Kind::ZeroDivisor);
+        return Err(Kind::ZeroDivisor);
     }
-    if x == LEAST {
-        if y == MINUS_ONE {
-            return Outcome::Fault(Kind::OutOfRange);
-        }
-    }
-    let q = x / y;
-    Outcome::Value(q)
+    x.checked_div(y).ok_or(Kind::OutOfRange)
 }
 
-pub fn remainder(x: i32, y: i32) -> Outcome
+// The least value by -1 leaves 0, though that quotient is out of range.
+pub fn remainder(x: i32, y: i32) -> Result<i32, Kind>
     ensures { result ≡ outcome_of (remainder x y) }
 {
     if y == 0 {
-        return Outcome::Fault(Kind::ZeroDivisor);
+        return Err(Kind::ZeroDivisor);
     }
-    if x == LEAST {
-        if y == MINUS_ONE {
-            return Outcome::Value(0);
-        }
-    }
-    let r = x % y;
-    Outcome::Value(r)
+    Ok(x.wrapping_rem(y))
 }
 
 // ---- by their tags
 
 // The operator that the tag names.
-pub fn operate(tag: u8, x: i32, y: i32) -> Outcome
+pub fn operate(tag: u8, x: i32, y: i32) -> Result<i32, Kind>
     requires { (4 ≤ tag) × (tag ≤ 8) }
     ensures { result ≡ outcome_of (applied (operator_of tag) x y) }
 {
@@ -147,24 +112,7 @@ pub fn decides(tag: u8, held: bool) -> bool
 pub fn joined(a: u8, b: u8, c: u8, d: u8) -> u32
     ensures { result ≡ word_of a b c d }
 {
-    (a as u32) + 256 * (b as u32) + 65536 * (c as u32) + 16777216 * (d as u32)
-}
-
-// The number whose two's complement is n.
-fn signed(n: u32) -> i32
-    ensures { result ≡ twos n }
-{
-    if n < 2147483648 {
-        n as i32
-    } else {
-        ((n as i64) - 4294967296) as i32
-    }
-}
-
-fn of_bytes(a: u8, b: u8, c: u8, d: u8) -> i32
-    ensures { result ≡ twos (word_of a b c d) }
-{
-    signed(joined(a, b, c, d))
+    u32::from_le_bytes([a, b, c, d])
 }
 
 // The constant in the four bytes at `at`.
@@ -172,5 +120,5 @@ pub fn constant(s: &[u8], at: usize) -> i32
     requires { at + 4 ≤ length s.now }
     ensures { result ≡ constant_in s.now at }
 {
-    of_bytes(s[at], s[at + 1], s[at + 2], s[at + 3])
+    i32::from_le_bytes([s[at], s[at + 1], s[at + 2], s[at + 3]])
 }

@@ -4,10 +4,10 @@ use Rattle.evaluators.specs.Answer.{placed}
 use Rattle.evaluators.proofs.Answers.{bound}
 use Rattle.evaluators.proofs.at_place.Goals as goal
 
-pub returns-in-Value : goal.returns-in-Value
+pub returns-in-Ok : goal.returns-in-Ok
 unfolding placed
-returns-in-Value c = rw (c.in-Value.is, bound c.in-Value.x (omega arith))
+returns-in-Ok c = rw (c.in-Ok.is, bound c.in-Ok.x (omega arith))
 
-pub returns-in-Fault : goal.returns-in-Fault
+pub returns-in-Err : goal.returns-in-Err
 unfolding placed
-returns-in-Fault c = rw c.in-Fault.is
+returns-in-Err c = rw c.in-Err.is

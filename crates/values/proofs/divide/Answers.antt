@@ -1,20 +1,21 @@
--- `values::divide` meets its contract. Outside the corner the quotient fits, so it settles to itself.
-use mathlib.Core.Path.{◌≡◌}
-use borrow.Author.Rules.{rules}
+-- `values::divide` meets its contract. What else the library asks of a quotient is that the divisor is not 0.
+use mathlib.Core.Path.{ap, sym, ◌∙◌}
+use Prim.Native.Nat.{◌≤◌}
+use native.Mathlib.Omega.{arith}
 use mir.Syntax.{w32}
 use mir.Val.{of_z}
-use Rattle.values.proofs.Laws.{quotient_fits, quotients, by_zero_lem, by_corner, by-other}
+use mir.Facts.{to_z-of_z}
+use Rattle.definitions.specs.Values.{outcome_of, quotient}
+use Rattle.values.proofs.Laws.{settles, by_zero, by-other, asks_one}
 use Rattle.values.proofs.divide.Goals as goal
-use Rattle.values.proofs.divide.Goals.{Joined-x-eq-LEAST, then-x-eq-LEAST+else-y-eq-MINUS_ONE, else-x-eq-LEAST}
-
-not-corner : (c : Joined-x-eq-LEAST) → of_z w32 c.args.x ≡ 2147483648 → of_z w32 c.args.y ≡ 4294967295 → ⊥
-not-corner c p q = elim c.if-x-eq-LEAST.branch [ then-x-eq-LEAST+else-y-eq-MINUS_ONE w ↦ w.if-y-eq-MINUS_ONE.false q | else-x-eq-LEAST w ↦ w.if-x-eq-LEAST.false p ]
 
 pub returns-then-y-eq0 : goal.returns-then-y-eq0
-returns-then-y-eq0 c = search (rules, by_zero_lem quotients)
-
-pub returns-then-y-eq-MINUS_ONE : goal.returns-then-y-eq-MINUS_ONE
-returns-then-y-eq-MINUS_ONE c = search (rules, by_corner quotients)
+unfolding quotient
+returns-then-y-eq0 c = ap outcome_of (sym (by_zero _ c.ranges.y c.if-y-eq0.true))
 
 pub returns : goal.returns
-returns c = search (rules, quotient_fits, not-corner (goal.at.returns c).Joined-x-eq-LEAST, by-other quotients)
+unfolding quotient
+returns c =
+    let nonzero : 1 ≤ of_z w32 c.args.y = omega (arith, c.if-y-eq0.false) in
+    let asked = simp (to_z-of_z c.ranges.x, to_z-of_z c.ranges.y) at c.checked_div.ensures in
+    settles _ _ (asks_one _ _ _ nonzero asked) c.ok_or.ensures.value ∙ ap outcome_of (sym (by-other c.args.y c.if-y-eq0.false))

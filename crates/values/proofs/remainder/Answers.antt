@@ -1,14 +1,19 @@
--- `values::remainder` meets its contract. The machine asks of a remainder that the quotient fits, so the corner is the one of `divide`.
-use borrow.Author.Rules.{rules}
-use Rattle.values.proofs.Laws.{remainder-fits, remainders, by_zero_lem, by_corner, by-other}
+-- `values::remainder` meets its contract.
+use mathlib.Core.Path.{ap, sym, ◌∙◌}
+use mir.Syntax.{w32}
+use mir.Val.{SFits}
+use mir.Facts.{to_z-of_z}
+use Rattle.std.specs.Prelude.{Ok}
+use Rattle.definitions.specs.Values.{outcome_of, remainder}
+use Rattle.values.proofs.Laws.{by_zero, remains}
 use Rattle.values.proofs.remainder.Goals as goal
-use Rattle.values.proofs.remainder.Goals.{Joined-x-eq-LEAST}
 
 pub returns-then-y-eq0 : goal.returns-then-y-eq0
-returns-then-y-eq0 c = search (rules, by_zero_lem remainders)
-
-pub returns-then-y-eq-MINUS_ONE : goal.returns-then-y-eq-MINUS_ONE
-returns-then-y-eq-MINUS_ONE c = search (rules, by_corner remainders)
+unfolding remainder
+returns-then-y-eq0 c = ap outcome_of (sym (by_zero _ c.ranges.y c.if-y-eq0.true))
 
 pub returns : goal.returns
-returns c = search (rules, remainder-fits, by-other remainders)
+returns c =
+    let left = simp (to_z-of_z c.ranges.x, to_z-of_z c.ranges.y) at c.wrapping_rem.ensures in
+    let fits : SFits w32 c.wrapping_rem.result = record { sfits = c.wrapping_rem.type_inv } in
+    rw (to_z-of_z fits) (ap Ok left ∙ ap outcome_of (sym (remains c.args.x c.args.y c.ranges.x c.if-y-eq0.false)))
