@@ -1,5 +1,5 @@
 pub mod Spans
 pub mod Trees
 pub mod Readings
-pub mod Tags
+pub mod Steps
 pub mod Flow

@@ -13,6 +13,15 @@ carries t = eqb t 0x02 || (eqb t 0x20 || (eqb t 0x30 || eqb t 0x31))
 unfoldable pub tag_width : ℕ → ℕ
 tag_width t = cond (eqb t 0x01) 5 (cond (carries t) 2 1)
 
+-- the tags from a place up to another, each with the byte after it. The first number bounds how many there are
+unfoldable pub tags_for : ℕ → List ℕ → ℕ → ℕ → List (ℕ × ℕ)
+tags_for zero s at to = []
+tags_for (suc f) s at to = cond (ltb at to) ((get_or s at 0, get_or s (at + 1) 0) ∷ tags_for f s (at + tag_width (get_or s at 0)) to) []
+
+-- each tag takes a byte
+abbrev pub tags_in : List ℕ → ℕ → ℕ → List (ℕ × ℕ)
+tags_in s at to = tags_for to s at to
+
 -- the tags that count here are the variables, the statements and the endings; x is the byte after the tag
 unfoldable pub mark_of : ℕ → ℕ → List Mark
 mark_of t x = cond (eqb t 0x02 || leb 0x20 t) ((t, cond (carries t) x 0) ∷ []) []

@@ -10,11 +10,13 @@ ghost use Rattle.definitions.specs.Smallest.{Smallest};
 ghost use Rattle.definitions.specs.Plan.{end_of};
 ghost use Rattle.closure.specs.Tables.{edge_in, variable_in};
 ghost use Rattle.flows.specs.Flow.{Ruled, Told};
-ghost use Rattle.flows.specs.Marks.{carries, tag_width, marks_in, part_in, has, reads_first};
+ghost use Rattle.flows.specs.Marks.{carries, tag_width, tags_in, marks_in, part_in, has, reads_first};
+ghost use Rattle.std.specs.Iterator.{YieldsFirst, item_count};
 
 use closure::{Blocks, Edges, Variables};
 use definitions::{BLOCKS, Read, VARIABLES};
 use readers::blocks::read_block;
+use std::marker::Model;
 
 // Where each block begins, and where the last one ends.
 pub type Places = [usize; BLOCKS + 1];
@@ -23,7 +25,7 @@ pub type Places = [usize; BLOCKS + 1];
 fn byte(s: &[u8], at: usize) -> u8
     ensures { result ≡ get_or s.now at 0 }
 {
-    if at < s.len() { s[at] } else { 0 }
+    s.get(at).copied().unwrap_or(0)
 }
 
 // How many bytes on the next tag stands.
@@ -37,28 +39,47 @@ fn width_of(tag: u8) -> usize
     }
 }
 
-// Whether this tag stands at a place, with this operand.
-fn stands(s: &[u8], at: usize, tag: u8, x: u8) -> bool
-    requires { at < longest }
-    ensures { result ≡ (eqb (get_or s.now at 0) tag && eqb (get_or s.now (at + 1) 0) x) }
-{
-    byte(s, at) == tag && byte(s, at + 1) == x
+// The tags of a part of a rule, read from the left, each with the byte after it: seen as the list of those that are left.
+#[derive(Drop)]
+struct Tags<'a> {
+    s: &'a [u8],
+    at: usize,
+    to: usize,
 }
 
-// Whether it stands somewhere from a place up to another.
+impl<'a> Model for Tags<'a> {
+    ghost Value = { List (ℕ × ℕ) };
+
+    ghost view = { λ t. tags_in t.s.now t.at t.to };
+
+    ghost invariant = { λ t. t.to ≤ longest };
+}
+
+impl<'a> Iterator for Tags<'a> {
+    type Item = (u8, u8);
+
+    ghost next_gives = { YieldsFirst (λ rest. rest) };
+
+    ghost remaining = { item_count (λ rest. rest) };
+
+    fn next(&mut self) -> Option<(u8, u8)> {
+        if self.to <= self.at {
+            return None;
+        }
+        let tag = byte(self.s, self.at);
+        let x = byte(self.s, self.at + 1);
+        self.at += width_of(tag);
+        Some((tag, x))
+    }
+}
+
+// Whether this tag stands with this operand somewhere from a place up to another.
 fn holds(s: &[u8], from: usize, to: usize, tag: u8, x: u8) -> bool
     requires { (to ≤ longest) × (carries tag ≡ true) }
     ensures { result ≡ has tag x (marks_in s.now from to) }
 {
-    let mut at = from;
-    while at < to {
-        let here = at;
-        at += width_of(byte(s, here));
-        if stands(s, here, tag, x) {
-            return true;
-        }
-    }
-    false
+    let mut tags = Tags { s, at: from, to };
+    tags.any(|m| m == (tag, x))
 }
 
 // The lowest tag of a statement; those of an ending lie above it, and those of what they hold below.
@@ -69,13 +90,10 @@ fn reads_first(s: &[u8], from: usize, to: usize, k: u8) -> bool
     requires { to ≤ longest }
     ensures { result ≡ reads_first k false (marks_in s.now from to) }
 {
+    let tags = Tags { s, at: from, to };
     let mut setting = false;
-    let mut at = from;
-    while at < to {
-        let here = at;
-        let tag = byte(s, here);
-        at += width_of(tag);
-        if stands(s, here, 0x02, k) {
+    for (tag, x) in tags {
+        if (tag, x) == (0x02, k) {
             return true;
         }
         // the next statement or the ending: a set before it now shields
@@ -83,17 +101,10 @@ fn reads_first(s: &[u8], from: usize, to: usize, k: u8) -> bool
             if setting {
                 return false;
             }
-            setting = stands(s, here, 0x20, k);
+            setting = (tag, x) == (0x20, k);
         }
     }
     false
-}
-
-// Both of two tests.
-fn both(x: bool, y: bool) -> bool
-    ensures { result ≡ (x && y) }
-{
-    x && y
 }
 
 // What each of n blocks reads first, if it counts, and what it sets.
@@ -111,16 +122,13 @@ fn uses(s: &[u8], n: usize, places: &Places, counts: &Blocks) -> Touched
 {
     let mut reads = [false; BLOCKS * VARIABLES];
     let mut sets = [false; BLOCKS * VARIABLES];
-    let end = n * VARIABLES;
-    let mut i = 0;
-    while i < end {
+    for i in 0..n * VARIABLES {
         let b = i / VARIABLES;
         let k = (i % VARIABLES) as u8;
         let from = places[b];
         let to = places[b + 1];
-        reads[i] = both(counts[b], reads_first(s, from, to, k));
+        reads[i] = counts[b] && reads_first(s, from, to, k);
         sets[i] = holds(s, from, to, 0x20, k);
-        i += 1;
     }
     Touched { reads, sets }
 }
@@ -131,15 +139,10 @@ fn named(s: &[u8], n: usize, places: &Places, tag: u8) -> Edges
     ensures { (b t : ℕ) → b < n → t < most_blocks → edge_in result b t ≡ has tag t (part_in s.now places.now b) }
 {
     let mut out = [false; BLOCKS * BLOCKS];
-    let end = n * BLOCKS;
-    let mut i = 0;
-    while i < end {
+    for i in 0..n * BLOCKS {
         let b = i / BLOCKS;
         let t = (i % BLOCKS) as u8;
-        let from = places[b];
-        let to = places[b + 1];
-        out[i] = holds(s, from, to, tag, t);
-        i += 1;
+        out[i] = holds(s, places[b], places[b + 1], tag, t);
     }
     out
 }
@@ -170,28 +173,17 @@ fn places_of(s: &[u8], n: u8, v: u8) -> Places
 
 // ---- the blocks that are led to
 
-// Whether block b names block t.
-fn names(gotos: &Edges, jumps: &Edges, b: usize, t: usize) -> bool
-    requires { (b < most_blocks) × (t < most_blocks) }
-    ensures { result ≡ (edge_in gotos.now b t || edge_in jumps.now b t) }
-{
-    let i = b * BLOCKS + t;
-    gotos[i] || jumps[i]
-}
-
 // An edge from each of n blocks to every block that names it.
 fn named_by(n: usize, gotos: &Edges, jumps: &Edges) -> Edges
     requires { n ≤ most_blocks }
     ensures { (t b : ℕ) → t < n → b < most_blocks → edge_in result t b ≡ (edge_in gotos.now b t || edge_in jumps.now b t) }
 {
     let mut out = [false; BLOCKS * BLOCKS];
-    let end = n * BLOCKS;
-    let mut i = 0;
-    while i < end {
+    for i in 0..n * BLOCKS {
         let t = i / BLOCKS;
         let b = i % BLOCKS;
-        out[i] = names(gotos, jumps, b, t);
-        i += 1;
+        let back = b * BLOCKS + t;
+        out[i] = gotos[back] || jumps[back];
     }
     out
 }
@@ -213,12 +205,8 @@ fn only(n: usize, counts: &Blocks, edges: &Edges) -> Edges
     ensures { (b t : ℕ) → b < n → t < most_blocks → edge_in result b t ≡ (among counts.now b && edge_in edges.now b t) }
 {
     let mut out = [false; BLOCKS * BLOCKS];
-    let end = n * BLOCKS;
-    let mut i = 0;
-    while i < end {
-        let b = i / BLOCKS;
-        out[i] = both(counts[b], edges[i]);
-        i += 1;
+    for i in 0..n * BLOCKS {
+        out[i] = counts[i / BLOCKS] && edges[i];
     }
     out
 }

@@ -1,26 +1,18 @@
--- `flows::holds` meets its contract. The loop's invariant: the tags still to come say what all say. The measure is what is left.
-use native.Mathlib.Omega.{arith}
-use Rattle.flows.proofs.Spans.{tag_width_bounds}
-use Rattle.flows.proofs.Tags.{has-none, has_here, has_on}
+-- `flows::holds` meets its contract.
+use mathlib.Core.Path.{refl, ◌∙◌}
+use borrow.Author.Tests.{tests}
+use Rattle.std.proofs.Common.{rules}
+use Rattle.std.proofs.lemmas.Iterator.Search.{any_from_yields_List}
+use Rattle.std.proofs.lemmas.Iterator.Consumers.{YieldsList-from_first}
+use lib.Dec.{eqb}
+use mathlib.Core.Bool.{◌&&◌}
+use Rattle.flows.specs.Marks.{tags_in}
+use Rattle.flows.proofs.Spans.{marks-tags}
+use Rattle.flows.proofs.Steps.{has-any}
 use Rattle.flows.proofs.holds.Goals as goal
-
-pub overflow_add-at : goal.overflow_add-at
-overflow_add-at c = omega (arith, c.width_of-at.ensures, tag_width_bounds c.byte.result)
-
-pub returns-then-stands : goal.returns-then-stands
-returns-then-stands c =
-    let a = c.args in
-    has_here a.tag a.x c.requires.1 a.s.now c.loop-at.at a.to _ c.loop-at.invariant (omega arith) c.stands.result c.stands.ensures c.if-stands.true
-
-pub loop-at-smaller : goal.loop-at-smaller
-loop-at-smaller c = omega (arith, c.width_of-at.ensures, tag_width_bounds c.byte.result)
-
-pub loop-at-preserved : goal.loop-at-preserved
-loop-at-preserved c =
-    let a = c.args in
-    has_on a.tag a.x c.requires.1 a.s.now c.loop-at.at a.to _ c.loop-at.invariant (omega arith) c.stands.result c.stands.ensures c.if-stands.false c.width_of-at.result c.byte.result c.byte.ensures c.width_of-at.ensures
 
 pub returns : goal.returns
 returns c =
     let a = c.args in
-    has-none a.tag a.x c.requires.1 a.s.now c.loop-at.at a.to _ c.loop-at.invariant (omega arith)
+    any_from_yields_List (λ m. eqb m.0 a.tag && eqb m.1 a.x) _ _ _ c.any.ensures.ran (YieldsList-from_first (λ m. m) (λ r. r) (tags_in a.s.now a.from a.to) refl) (λ x b q k. search (rules, tests))
+    ∙ rw (marks-tags a.s.now a.from a.to) (has-any a.tag a.x c.requires.1 (tags_in a.s.now a.from a.to))

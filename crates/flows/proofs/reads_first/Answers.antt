@@ -1,40 +1,37 @@
--- `flows::reads_first` meets its contract. The loop's invariant: the tags still to come say what all say, `setting` being the flag of `reads_first`. The
--- measure is what is left.
-use native.Mathlib.Omega.{arith}
-use Rattle.flows.proofs.Spans.{tag_width_bounds}
-use Rattle.flows.proofs.Tags.{first-none, first-here, first-shielded, first_part, first-inside}
+-- `flows::reads_first` meets its contract. The loop's invariant: the tags still to come say what all say, `setting` being the flag of `reads_first`.
+use mathlib.Core.Path.{ap}
+use mathlib.Core.Bool.{false}
+use Rattle.flows.specs.Marks.{reads_first}
+use Rattle.flows.proofs.Spans.{marks-tags}
+use Rattle.flows.proofs.Steps.{first-none, first-here, first-shielded, first_part, first-inside}
 use Rattle.flows.proofs.reads_first.Goals as goal
 
-pub overflow_add-at : goal.overflow_add-at
-overflow_add-at c = omega (arith, c.width_of-at.ensures, tag_width_bounds c.byte-tag.result)
+pub loop-tag-init : goal.loop-tag-init
+loop-tag-init c = (
+  tt,
+  tt,
+  rw (c.into_iter-tag-iterator.ensures.into_iter_gives) (ap (reads_first c.args.k false) (marks-tags c.args.s.now c.args.from c.args.to)),
+)
 
-pub returns-then-stands : goal.returns-then-stands
-returns-then-stands c =
-    let a = c.args in
-    first-here a.k a.s.now c.loop-at.at a.to c.loop-at.setting _ c.loop-at.invariant (omega arith) c.byte-tag.result c.byte-tag.ensures c.stands.result c.stands.ensures c.if-stands.true
+pub returns-then-eq : goal.returns-then-eq
+returns-then-eq c =
+    let i = c.loop-tag in
+    first-here c.args.k i.setting _ i.tag-iterator i.invariant.2 c.in-Some.tag c.in-Some.x c.next.new.self c.in-Some.ensures.steps c.eq.result c.eq.ensures c.if-eq.true
 
 pub returns-then-setting : goal.returns-then-setting
 returns-then-setting c =
-    let a = c.args in
-    first-shielded a.k a.s.now c.loop-at.at a.to c.loop-at.setting _ c.loop-at.invariant (omega arith) c.byte-tag.result c.byte-tag.ensures c.stands.result c.stands.ensures c.if-stands.false c.if-tag-ge-STATEMENT.true c.if-setting.true
+    let i = c.loop-tag in
+    first-shielded c.args.k i.setting _ i.tag-iterator i.invariant.2 c.in-Some.tag c.in-Some.x c.next.new.self c.in-Some.ensures.steps c.eq.result c.eq.ensures c.if-eq.false c.if-tag-ge-STATEMENT.true c.if-setting.true
 
-pub loop-at-smaller-then-tag-ge-STATEMENT : goal.loop-at-smaller-then-tag-ge-STATEMENT
-loop-at-smaller-then-tag-ge-STATEMENT c = omega (arith, c.width_of-at.ensures, tag_width_bounds c.byte-tag.result)
+pub loop-tag-preserved-then-tag-ge-STATEMENT : goal.loop-tag-preserved-then-tag-ge-STATEMENT
+loop-tag-preserved-then-tag-ge-STATEMENT c =
+    let i = c.loop-tag in
+    (tt, tt, first_part c.args.k i.setting _ i.tag-iterator i.invariant.2 c.in-Some.tag c.in-Some.x c.next.new.self c.in-Some.ensures.steps c.eq.result c.eq.ensures c.if-eq.false c.if-tag-ge-STATEMENT.true c.if-setting.false c.eq-setting.result c.eq-setting.ensures)
 
-pub loop-at-preserved-then-tag-ge-STATEMENT : goal.loop-at-preserved-then-tag-ge-STATEMENT
-loop-at-preserved-then-tag-ge-STATEMENT c =
-    let a = c.args in
-    first_part a.k a.s.now c.loop-at.at a.to c.loop-at.setting _ c.loop-at.invariant (omega arith) c.byte-tag.result c.byte-tag.ensures c.stands.result c.stands.ensures c.if-stands.false c.width_of-at.result c.width_of-at.ensures c.if-tag-ge-STATEMENT.true c.if-setting.false c.stands-setting.result c.stands-setting.ensures
-
-pub loop-at-smaller : goal.loop-at-smaller
-loop-at-smaller c = omega (arith, c.width_of-at.ensures, tag_width_bounds c.byte-tag.result)
-
-pub loop-at-preserved : goal.loop-at-preserved
-loop-at-preserved c =
-    let a = c.args in
-    first-inside a.k a.s.now c.loop-at.at a.to c.loop-at.setting _ c.loop-at.invariant (omega arith) c.byte-tag.result c.byte-tag.ensures c.stands.result c.stands.ensures c.if-stands.false c.width_of-at.result c.width_of-at.ensures c.if-tag-ge-STATEMENT.false
+pub loop-tag-preserved : goal.loop-tag-preserved
+loop-tag-preserved c =
+    let i = c.loop-tag in
+    (tt, tt, first-inside c.args.k i.setting _ i.tag-iterator i.invariant.2 c.in-Some.tag c.in-Some.x c.next.new.self c.in-Some.ensures.steps c.eq.result c.eq.ensures c.if-eq.false c.if-tag-ge-STATEMENT.false)
 
 pub returns : goal.returns
-returns c =
-    let a = c.args in
-    first-none a.k a.s.now c.loop-at.at a.to c.loop-at.setting _ c.loop-at.invariant (omega arith)
+returns c = first-none c.args.k c.loop-tag.setting _ c.loop-tag.tag-iterator c.loop-tag.invariant.2 c.in-None.ensures.steps.0

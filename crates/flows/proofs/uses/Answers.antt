@@ -1,9 +1,10 @@
 -- `flows::uses` meets its contract. One loop over both flat tables: entry i is block i / 16, variable i % 16.
 use native.Mathlib.Omega.{arith}
-use mathlib.Core.Path.{refl}
+use mathlib.Core.Path.{refl, ◌∙◌}
 use Rattle.closure.proofs.Laws.{entry_of, written-set, in_rows}
 use Rattle.flows.specs.Marks.{carries}
 use Rattle.flows.proofs.uses.Goals as goal
+use Rattle.flows.proofs.uses.Goals.{then-counts-b, else-counts-b}
 
 pub holds-requires : goal.holds-requires
 unfolding carries
@@ -12,14 +13,12 @@ holds-requires c = (c.requires.1 _ (omega arith), refl)
 pub loop-i-preserved : goal.loop-i-preserved
 unfolding entry_of
 loop-i-preserved c = (
-  omega arith,
-  refl,
-  written-set _ _ _ _ _ _ (omega arith) c.loop-i.invariant.2 (rw c.reads_first.ensures at c.both.ensures),
-  written-set _ _ _ _ _ _ (omega arith) c.loop-i.invariant.3 c.holds.ensures,
+  written-set _ _ _ _ _ _ (omega arith) c.loop-i.invariant.0 (elim c.if-counts-b.branch [ then-counts-b w ↦ rw w.if-counts-b.true (w.reads-is ∙ w.reads_first.ensures) | else-counts-b w ↦ rw w.if-counts-b.false (w.reads-is ∙ w.if-counts-b.false) ]),
+  written-set _ _ _ _ _ _ (omega arith) c.loop-i.invariant.1 c.holds.ensures,
 )
 
 pub returns : goal.returns
 returns c = λ b k l h.
     let n = c.args.n in
     let r = c.loop-i.invariant in
-    (in_rows _ _ 16 n _ _ _ (omega arith) r.2 b k l h, in_rows _ _ 16 n _ _ _ (omega arith) r.3 b k l h)
+    (in_rows _ _ 16 n _ _ _ (omega arith) r.0 b k l h, in_rows _ _ 16 n _ _ _ (omega arith) r.1 b k l h)

@@ -1,6 +1,4 @@
 -- `flows::uses` meets its contract. One loop over both flat tables: entry i is block i / 16, variable i % 16.
-use Prim.Native.Nat.{◌*◌, ◌-◌, ◌≤◌}
-use mathlib.Core.Path.{◌≡◌}
 use mathlib.Core.Bool.{false, ◌&&◌}
 use Rattle.definitions.specs.Columns.{among}
 use Rattle.closure.proofs.Laws.{Written, entry_of}
@@ -9,9 +7,5 @@ use Rattle.flows.proofs.uses.Given as goal
 
 abbrev pub invariant-loop-i : goal.invariant-loop-i
 invariant-loop-i l =
-    (l.i ≤ l.n * 16) × (l.end ≡ l.n * 16)
-    × Written false 1024 l.i (entry_of 16 (λ _ b k. among l.counts b && reads_first k false (part_in l.s l.places b))) l.reads
+    Written false 1024 l.i (entry_of 16 (λ _ b k. among l.counts b && reads_first k false (part_in l.s l.places b))) l.reads
     × Written false 1024 l.i (entry_of 16 (λ _ b k. has 0x20 k (part_in l.s l.places b))) l.sets
-
-abbrev pub decreases-loop-i : goal.decreases-loop-i
-decreases-loop-i l = l.n * 16 - l.i

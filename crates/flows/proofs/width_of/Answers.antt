@@ -1,6 +1,6 @@
 -- `flows::width_of` meets its contract: 0x30 and 0x31 come as a range, and what is left is no tag with an operand.
 use native.Mathlib.Omega.{arith}
-use Rattle.flows.proofs.Tags.{tag_width-one, tag_width-operand, tag_width_target, tag_width-constant}
+use Rattle.flows.proofs.Steps.{tag_width-one, tag_width-operand, tag_width_target, tag_width-constant}
 use Rattle.flows.proofs.width_of.Goals as goal
 
 pub returns-in_default : goal.returns-in_default

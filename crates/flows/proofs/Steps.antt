@@ -1,15 +1,15 @@
 -- The loops over the tags: what one tag more says. Assumes nothing.
-use Prim.Native.Nat.{ℕ, ◌+◌, ◌<◌, ◌≤◌}
+use Prim.Native.Nat.{ℕ, ◌<◌, ◌≤◌}
 use native.Mathlib.Omega.{arith}
 use mathlib.Core.Logic.{◌⊎◌, inl, inr}
 use mathlib.Core.Path.{◌≡◌, refl, sym, ap, ◌∙◌}
 use mathlib.Core.Bool.{Bool, true, false, false≢true, cond, not, ◌&&◌, ◌||◌}
 use mathlib.Core.List.{List, [], ◌∷◌, ◌++◌}
+use Rattle.std.specs.List.{list_any}
 use lib.Dec.{leb, eqb}
-use lib.ListN.{get_or}
-use borrow.Author.Tests.{eq-eqb, ne_eqb, le-leb, lt-leb}
-use Rattle.flows.specs.Marks.{Mark, carries, tag_width, mark_of, marks_in, has, reads_first}
-use Rattle.flows.proofs.Spans.{either, marks-more, marks-none}
+use borrow.Author.Tests.{ne_eqb, le-leb, lt-leb}
+use Rattle.flows.specs.Marks.{Mark, carries, tag_width, mark_of, has, reads_first}
+use Rattle.flows.proofs.Spans.{either, marks_of}
 
 -- ---- how wide a tag is
 pub tag_width-one : (t : ℕ) → (t ≡ 0x01 → ⊥) → ((t ≡ 0x02) ⊎ (t ≡ 0x20) → ⊥) → (t ≡ 0x30 → ⊥) → (t ≡ 0x31 → ⊥) → 1 ≡ tag_width t
@@ -28,14 +28,6 @@ tag_width_target t l h = either (λ u. 2 ≡ tag_width u) t 0x30 refl (λ n. let
 pub tag_width-constant : (t : ℕ) → t ≡ 0x01 → 5 ≡ tag_width t
 unfolding tag_width
 tag_width-constant t e = rw e
-
--- ---- a tag and its operand at a place
-module _ (a b t x tag y : ℕ) (e : a ≡ t) where
-  pub stands_by : b ≡ x → a ≡ tag → eqb b y ≡ (eqb t tag && eqb x y)
-  stands_by f h = rw (← f, ← e, eq-eqb a tag h)
-
-  pub stands-not : (a ≡ tag → ⊥) → eqb a tag ≡ (eqb t tag && eqb x y)
-  stands-not h = rw (← e, ne_eqb a tag h)
 
 -- ---- whether a tag with this operand is among them
 module _ (tag x : ℕ) (carried : carries tag ≡ true) where
@@ -62,17 +54,10 @@ module _ (tag x : ℕ) (carried : carries tag ≡ true) where
       go n true = rw (ne_eqb t tag n)
       go n false = refl
 
-  module _ (s : List ℕ) (at to : ℕ) (whole : Bool) (so_far : whole ≡ has tag x (marks_in s at to)) where
-    pub has-none : to ≤ at → false ≡ whole
-    unfolding has
-    has-none h = sym (so_far ∙ ap (has tag x) (marks-none s at to h))
-
-    module _ (inside : at < to) (stands : Bool) (is : stands ≡ (eqb (get_or s at 0) tag && eqb (get_or s (at + 1) 0) x)) where
-      pub has_here : stands ≡ true → true ≡ whole
-      has_here e = sym (so_far ∙ rw (marks-more s at to inside, has_mark (get_or s at 0) (get_or s (at + 1) 0), ← is, e))
-
-      pub has_on : stands ≡ false → (w t : ℕ) → t ≡ get_or s at 0 → w ≡ tag_width t → whole ≡ has tag x (marks_in s (at + w) to)
-      has_on e w t f g = so_far ∙ rw (marks-more s at to inside, has_mark (get_or s at 0) (get_or s (at + 1) 0), ← is, e, g, f)
+  pub has-any : (ts : List (ℕ × ℕ)) → list_any (λ m. eqb m.0 tag && eqb m.1 x) ts ≡ has tag x (marks_of ts)
+  unfolding has
+  has-any [] = refl
+  has-any (m ∷ ms) = rw (has_mark m.0 m.1 (marks_of ms), has-any ms)
 
 -- ---- whether variable k is read first
 module _ (k : ℕ) where
@@ -95,22 +80,29 @@ module _ (k : ℕ) where
       go x m true e = rw (e, ne_eqb t 0x20 m)
       go x m false e = refl
 
-  module _ (s : List ℕ) (at to : ℕ) (on whole : Bool) (so_far : whole ≡ reads_first k on (marks_in s at to)) where
-    pub first-none : to ≤ at → false ≡ whole
+  -- whether it is, by the tags that are left
+  abbrev pub First : Bool → List (ℕ × ℕ) → Bool
+  First on ts = reads_first k on (marks_of ts)
+
+  module _ (on whole : Bool) (ts : List (ℕ × ℕ)) (so_far : whole ≡ First on ts) where
+    pub first-none : ts ≡ [] → false ≡ whole
     unfolding reads_first
-    first-none h = sym (so_far ∙ ap (reads_first k on) (marks-none s at to h))
+    first-none e = sym (so_far ∙ ap (First on) e)
 
-    module _ (inside : at < to) (t : ℕ) (tag : t ≡ get_or s at 0) (reads : Bool) (is : reads ≡ (eqb (get_or s at 0) 0x02 && eqb (get_or s (at + 1) 0) k)) where
-      pub first-here : reads ≡ true → true ≡ whole
-      first-here e = sym (so_far ∙ rw (marks-more s at to inside, first_mark (get_or s at 0) (get_or s (at + 1) 0), ← is, e))
+    module _ (t y : ℕ) (rest : List (ℕ × ℕ)) (more : ts ≡ (t, y) ∷ rest) where
+      first : whole ≡ At t y on (marks_of rest)
+      first = so_far ∙ ap (First on) more ∙ first_mark t y on (marks_of rest)
 
-      module _ (unread : reads ≡ false) where
-        pub first-shielded : 0x20 ≤ t → on ≡ true → false ≡ whole
-        first-shielded h e = sym (so_far ∙ rw (marks-more s at to inside, first_mark (get_or s at 0) (get_or s (at + 1) 0), ← is, unread, ← tag, le-leb 0x20 t h, e))
+      module _ (reads : Bool) (is : reads ≡ (eqb t 0x02 && eqb y k)) where
+        pub first-here : reads ≡ true → true ≡ whole
+        first-here e = sym (first ∙ rw (← is, e))
 
-        module _ (w : ℕ) (wide : w ≡ tag_width t) where
-          pub first_part : 0x20 ≤ t → on ≡ false → (sets : Bool) → sets ≡ (eqb (get_or s at 0) 0x20 && eqb (get_or s (at + 1) 0) k) → whole ≡ reads_first k sets (marks_in s (at + w) to)
-          first_part h e sets f = so_far ∙ rw (marks-more s at to inside, first_mark (get_or s at 0) (get_or s (at + 1) 0), ← is, unread, ← f, ← tag, le-leb 0x20 t h, e, wide)
+        module _ (unread : reads ≡ false) where
+          pub first-shielded : 0x20 ≤ t → on ≡ true → false ≡ whole
+          first-shielded h e = sym (first ∙ rw (← is, unread, le-leb 0x20 t h, e))
 
-          pub first-inside : t < 0x20 → whole ≡ reads_first k on (marks_in s (at + w) to)
-          first-inside h = so_far ∙ rw (marks-more s at to inside, first_mark (get_or s at 0) (get_or s (at + 1) 0), ← is, unread, ← tag, lt-leb 0x20 t h, wide)
+          pub first_part : 0x20 ≤ t → on ≡ false → (sets : Bool) → sets ≡ (eqb t 0x20 && eqb y k) → whole ≡ First sets rest
+          first_part h e sets f = first ∙ rw (← is, unread, ← f, le-leb 0x20 t h, e)
+
+          pub first-inside : t < 0x20 → whole ≡ First on rest
+          first-inside h = first ∙ rw (← is, unread, lt-leb 0x20 t h)
