@@ -40,10 +40,6 @@ module _ (f : ℕ → Bool) where
   unfolding columns_of over
   put_none d at vars = (refl, sym (ap (λ (n : ℕ). take at d ++ drop n d) (add-zero at) ∙ take-append-drop at d))
 
-  -- a column's place lies in the line
-  pub column_in : (at k v n m : ℕ) → k < v → at + count_to v f ≤ m → f k ≡ true → n ≡ count_to k f → at + n < m
-  column_in at k v n m h l e en = omega (arith, count-before k v f h e)
-
   -- the next variable is a column
   pub put_one : (d₀ d d' : List Word) (at k v n : ℕ) (vars : List Word) (z : Word) → k < v → at + count_to v f ≤ length d₀ → f k ≡ true → n ≡ count_to k f → z ≡ get_or vars k (pos 0)
       → d' ≡ set d (at + n) z → ColumnsPut d₀ at vars d k → ColumnsPut d₀ at vars d' (k + 1)

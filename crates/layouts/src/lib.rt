@@ -70,58 +70,54 @@ pub fn put_record(
     quota: usize,
     finish: Finish,
     begun: usize,
-    count: usize,
-    labels: &[i32; QUOTA],
+    labels: &[i32],
 )
-    requires { (begun ≤ most_budget) × ((count ≤ quota) × ((quota ≤ most_quota) × (at + record_size quota ≤ length out.old))) }
-    ensures { out.new ≡ over out.old at (record_words quota finish begun count (take count labels.now)) }
+    requires { (begun ≤ most_budget) × ((length labels.now ≤ quota) × ((quota ≤ most_quota) × (at + record_size quota ≤ length out.old))) }
+    ensures { out.new ≡ over out.old at (record_words quota finish begun (length labels.now) labels.now) }
 {
     let status = finish.status;
     let place = finish.place;
+    let count = labels.len();
     out[at] = status as i32;
     out[at + 1] = begun as i32;
     out[at + 2] = count as i32;
     out[at + 3] = place as i32;
     let first = at + RECORD_HEAD;
-    let all = &labels[..];
-    buffers::copy_at(out, first, &all[0..count]);
+    buffers::copy_at(out, first, labels);
     buffers::clear_at(out, first + count, quota - count);
 }
 
 // ---- a line
 
 // The columns among the first v variables, in rising order: into work from index at on.
-fn put_columns(work: &mut [i32], at: usize, v: usize, lc: u16, vars: &[i32; VARIABLES])
-    requires { (v ≤ most_columns) × (at + count_to v (bit_of lc) ≤ length work.old) }
-    ensures { work.new ≡ over work.old at (words_of (columns_of v (bit_of lc) (values_in vars.now))) }
+fn put_columns(work: &mut [i32], at: usize, l: Layout, vars: &[i32; VARIABLES])
+    requires { (l.variables ≤ most_columns) × (at + count_to l.variables (bit_of l.lc) ≤ length work.old) }
+    ensures { work.new ≡ over work.old at (words_of (columns_of l.variables (bit_of l.lc) (values_in vars.now))) }
 {
-    let mut k: usize = 0;
-    while k < v {
-        if closure::has(lc, k) {
-            work[at + closure::place(lc, k)] = vars[k];
+    for k in 0..l.variables {
+        if closure::has(l.lc, k) {
+            work[at + closure::place(l.lc, k)] = vars[k];
         }
-        k += 1;
     }
 }
 
-// Row number, block, rounds begun, columns: into work from index at on.
-pub fn put_line(
-    work: &mut [i32],
-    at: usize,
-    row: usize,
-    block: u8,
-    begun: usize,
-    v: usize,
-    lc: u16,
-    vars: &[i32; VARIABLES],
-)
-    requires { (row < most_rows) × ((begun ≤ most_budget) × ((v ≤ most_columns) × (at + line_size (count_to v (bit_of lc)) ≤ length work.old))) }
-    ensures { work.new ≡ over work.old at (line_words row block begun (columns_of v (bit_of lc) (values_in vars.now))) }
+// A line's numbers before its columns: which row it is, where its next round begins, the rounds begun.
+#[derive(Clone, Copy)]
+pub struct Line {
+    pub row: usize,
+    pub block: u8,
+    pub begun: usize,
+}
+
+// A line's numbers and its columns: into work from index at on.
+pub fn put_line(work: &mut [i32], at: usize, line: Line, l: Layout, vars: &[i32; VARIABLES])
+    requires { (line.row < most_rows) × ((line.begun ≤ most_budget) × ((l.variables ≤ most_columns) × (at + line_size (count_to l.variables (bit_of l.lc)) ≤ length work.old))) }
+    ensures { work.new ≡ over work.old at (line_words line.row line.block line.begun (columns_of l.variables (bit_of l.lc) (values_in vars.now))) }
 {
-    work[at] = row as i32;
-    work[at + 1] = block as i32;
-    work[at + 2] = begun as i32;
-    put_columns(work, at + LINE_HEAD, v, lc, vars);
+    work[at] = line.row as i32;
+    work[at + 1] = line.block as i32;
+    work[at + 2] = line.begun as i32;
+    put_columns(work, at + LINE_HEAD, l, vars);
 }
 
 // ---- reading
@@ -140,23 +136,20 @@ pub fn fetch(src: &[i32], at: usize, n: usize) -> [i32; VARIABLES]
     ensures { result ≡ in_array (take n (drop at src.now)) }
 {
     let mut a = [0i32; VARIABLES];
-    let end = at + n;
-    buffers::copy_at(&mut a, 0, &src[at..end]);
+    a[..n].copy_from_slice(&src[at..at + n]);
     a
 }
 
 // The columns that stand in work from index at on, each as its variable; all others are unset.
-fn columns_at(work: &[i32], at: usize, v: usize, lc: u16) -> [i32; VARIABLES]
-    requires { (v ≤ most_columns) × (at + count_to v (bit_of lc) ≤ length work.now) }
-    ensures { values_in result ≡ spread v (bit_of lc) (values_in (drop at work.now)) }
+fn columns_at(work: &[i32], at: usize, l: Layout) -> [i32; VARIABLES]
+    requires { (l.variables ≤ most_columns) × (at + count_to l.variables (bit_of l.lc) ≤ length work.now) }
+    ensures { values_in result ≡ spread l.variables (bit_of l.lc) (values_in (drop at work.now)) }
 {
     let mut vars = [0i32; VARIABLES];
-    let mut k: usize = 0;
-    while k < v {
-        if closure::has(lc, k) {
-            vars[k] = work[at + closure::place(lc, k)];
+    for k in 0..l.variables {
+        if closure::has(l.lc, k) {
+            vars[k] = work[at + closure::place(l.lc, k)];
         }
-        k += 1;
     }
     vars
 }
@@ -179,7 +172,7 @@ pub fn read_row(out: &[i32], work: &[i32], from: usize, l: Layout) -> Row
 {
     let row = number(work, from);
     let block = number(work, from + 1) as u8;
-    let vars = columns_at(work, from + LINE_HEAD, l.variables, l.lc);
+    let vars = columns_at(work, from + LINE_HEAD, l);
     let at = record_at(row, l.quota);
     let begun = number(out, at + 1);
     let count = number(out, at + 2);

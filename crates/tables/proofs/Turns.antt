@@ -14,7 +14,7 @@ use Rattle.definitions.specs.Direct.{State, Round, jumped, finished, joined, adv
 use Rattle.definitions.specs.Batch.{Budgets, budget_of, record_size, record_words, record_of, count_to, line_size, line_words, columns_of}
 use Rattle.definitions.specs.Finder.{most_rows, most_columns}
 use Rattle.definitions.specs.Calls.{most_budget}
-use Rattle.definitions.proofs.Values.{words-again}
+use Rattle.definitions.proofs.Values.{words-again, words-length}
 use Rattle.definitions.proofs.Counts.{count_le}
 use Rattle.columns.specs.Proper.{Proper}
 use Rattle.columns.specs.Row.{Sound}
@@ -101,11 +101,11 @@ module _ {r : Rule} {l : Layout} {from : ℕ} {out work : List Word} (kn : Known
 
     -- the record
     module _ (at : ℕ) (ea : at ≡ row.row * record_size q) (out' : List Word)
-        (eo : out' ≡ over out at (record_words q c.finish (row.begun + c.rounds) c.count (take c.count labels))) where
+        (eo : out' ≡ over out at (record_words q c.finish (row.begun + c.rounds) (length (take c.count labels)) (take c.count labels))) where
       its-record : out' ≡ over out (k.row * record_size q) (record_of q s')
       its-record =
           let ls : take c.count labels ≡ words_of s'.labels = sym (words-again (take c.count labels)) ∙ ap words_of w.labels' in
-          eo ∙ rw (ea, lk.row, begun-is, w.finish, ls, w.count)
+          eo ∙ rw (ea, lk.row, begun-is, w.finish, ls, words-length s'.labels)
 
       -- it has ended
       pub turned-off : (to : ℕ) → goes_on c.finish ≡ false → Turned r q k.row to s' out work (record { finish = c.finish; begun = row.begun + c.rounds }) out' work

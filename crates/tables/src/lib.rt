@@ -13,7 +13,7 @@ ghost use Rattle.tables.specs.Runs.{Allowed, ToStart, Started, RowsRun};
 
 use carries::{Spot, carry};
 use definitions::{Finish, goes_on};
-use layouts::{Layout, fetch, put_line, put_record, read_row, record_at};
+use layouts::{Layout, Line, fetch, put_line, put_record, read_row, record_at};
 use rounds::Rule;
 
 // ---- budgets
@@ -93,18 +93,14 @@ fn turn(
     let begun = row.begun + c.rounds;
     let at = record_at(row.row, l.quota);
     let finish = c.finish;
-    put_record(out, at, l.quota, finish, begun, c.count, &labels);
+    put_record(out, at, l.quota, finish, begun, &labels[..c.count]);
     if goes_on(finish) {
-        put_line(
-            work,
-            m.to,
-            row.row,
-            c.block,
+        let line = Line {
+            row: row.row,
+            block: c.block,
             begun,
-            l.variables,
-            l.lc,
-            &vars,
-        );
+        };
+        put_line(work, m.to, line, l, &vars);
     }
     Stage { finish, begun }
 }
@@ -167,7 +163,12 @@ fn put_starts(l: Layout, values: &[i32], rows: usize, work: &mut [i32])
     let mut row: usize = 0;
     while row < rows {
         let vars = fetch(values, row * l.arguments, l.arguments);
-        put_line(work, row * l.size, row, 0, 0, l.variables, l.lc, &vars);
+        let line = Line {
+            row,
+            block: 0,
+            begun: 0,
+        };
+        put_line(work, row * l.size, line, l, &vars);
         row += 1;
     }
 }

@@ -1,6 +1,7 @@
 -- A row is read, carried on, and written.
 use mathlib.Core.Path.{sym, ◌∙◌}
 use native.Mathlib.Omega.{arith}
+use lib.ListN.{length-take}
 use Rattle.tables.specs.Table.{budgets_in}
 use Rattle.tables.proofs.Turns.{some-row, own-budget, count-in, in_hand, place-fits, line-room, row-few, begun-few, count-few, turned_on, turned-off}
 use Rattle.tables.proofs.turn.Goals as goal
@@ -32,6 +33,20 @@ record_at-at-requires c =
     let k = c.requires.row_may_begin.at in
     (omega (arith, row-few kn k (c.read_row-row.ensures (some-row kn k))), kn.quota)
 
+pub slice_bounds-labels-end : goal.slice_bounds-labels-end
+slice_bounds-labels-end c =
+    let kn = c.requires.running.1.0 in
+    let k = c.requires.row_may_begin.at in
+    let lk = c.read_row-row.ensures (some-row kn k) in
+    omega (arith, count-few kn k lk c.budget_of-budget.result (c.carry-c.ensures (in_hand kn k lk)), kn.quota, lk.room)
+
+pub slice_bounds-put_record-end : goal.slice_bounds-put_record-end
+slice_bounds-put_record-end c =
+    let kn = c.requires.running.1.0 in
+    let k = c.requires.row_may_begin.at in
+    let lk = c.read_row-row.ensures (some-row kn k) in
+    omega (arith, length-take c.carry-c.result.count c.carry-c.new.labels, count-few kn k lk c.budget_of-budget.result (c.carry-c.ensures (in_hand kn k lk)), kn.quota, lk.room)
+
 pub put_record-requires : goal.put_record-requires
 put_record-requires c =
     let kn = c.requires.running.1.0 in
@@ -39,7 +54,7 @@ put_record-requires c =
     let lk = c.read_row-row.ensures (some-row kn k) in
     let w = c.carry-c.ensures (in_hand kn k lk) in
     let N = c.budget_of-budget.result in
-    (begun-few kn k lk N w (omega (arith, c.requires.row_may_begin.room, own-budget lk (budgets_in c.args.a c.args.budgets.now) c.budget_of-budget.ensures)), (count-few kn k lk N w, (kn.quota, place-fits kn k lk c.record_at-at.result c.record_at-at.ensures)))
+    (begun-few kn k lk N w (omega (arith, c.requires.row_may_begin.room, own-budget lk (budgets_in c.args.a c.args.budgets.now) c.budget_of-budget.ensures)), (omega (arith, length-take c.carry-c.result.count c.carry-c.new.labels, count-few kn k lk N w), (kn.quota, place-fits kn k lk c.record_at-at.result c.record_at-at.ensures)))
 
 pub put_line-requires : goal.put_line-requires
 put_line-requires c =
