@@ -28,9 +28,9 @@ unfolding check_of
 check_of-append p q k h = rw (word_sum-append weight_at p q summed_words h)
 
 -- what the loop of `check` leaves
-pub check_law : (p : List ℕ) (k sum i r : ℕ) → i ≡ summed_words → sum ≡ word_sum weight_at p i % 65536 → r ≡ (sum + k) % 65536 → r ≡ check_of k p
+pub check_law : (p : List ℕ) (k sum i : ℕ) → i ≡ summed_words → sum ≡ word_sum weight_at p i % 65536 → (sum + k) % 65536 ≡ check_of k p
 unfolding check_of
-check_law p k sum i r e s h =
+check_law p k sum i e s =
     let s' : sum ≡ word_sum weight_at p summed_words % 65536 = rw e at s in
     omega arith
 

@@ -1,13 +1,13 @@
 -- Laws of a file as it is read: one page, the pages before it, the whole. Assumes nothing.
-use Rattle.std.proofs.Common.{◌≡◌, ℕ, zero, suc, ◌+◌, ◌-◌, ◌*◌, ◌/◌, ◌%◌, ◌<◌, ◌≤◌, Bool, true, false, cond, not, ◌&&◌, eqb, ltb, leb, List, [], ◌++◌, length, get_or, take, drop, sym, refl, ap, ◌∙◌, subst, add-zero, add-suc, add-sub_of_le, add-one, arith, length-append, length-drop, drop_of_length-le, length-take, length-take-le, ltb-false, eq-eqb, ne_eqb, eqb-true, le-leb, leb-true}
+use Rattle.std.proofs.Common.{◌≡◌, ℕ, zero, suc, ◌+◌, ◌-◌, ◌*◌, ◌/◌, ◌%◌, ◌<◌, ◌≤◌, Bool, true, false, cond, not, ◌&&◌, eqb, ltb, leb, List, [], ◌∷◌, ◌++◌, length, take, drop, sym, refl, ap, ◌∙◌, subst, add-zero, add-suc, add-sub_of_le, add-one, arith, length-append, length-drop, length-take, length-take-le, ltb-false, eq-eqb, ne_eqb, eqb-true, leb-true}
+use Rattle.std.specs.List.{list_all}
 use native.Mathlib.Nat.{min-le_left}
-use lib.Seq.{slice-cons}
-use borrow.Author.Tests.{eqb-false, lt-leb, not-true}
+use borrow.Author.Tests.{eqb-false, not-true}
 use Rattle.definitions.specs.declared.Refusal.{Refusal}
 use Rattle.definitions.specs.declared.Reply.TheVariants.{Done, Refused}
 use Rattle.definitions.specs.Grammar.{Got, got, refused, then}
 use Rattle.definitions.specs.Plan.{end_of}
-use Rattle.definitions.specs.Pages.{most_pages, page_size, payload_room, check_place, length_in, check_in, check_of, page_in, payload_of, all_zero, length_ok, filler_ok, size_ok, page_at, payload_to, unpacked}
+use Rattle.definitions.specs.Pages.{most_pages, page_size, payload_room, length_in, check_in, check_of, page_in, payload_of, all_zero, length_ok, filler_ok, size_ok, page_at, payload_to, unpacked}
 use Rattle.buffers.specs.Words.{over}
 use Rattle.buffers.proofs.Laws.{over-start, over-next}
 use Rattle.pages.specs.Answers.{scan_of, Fits}
@@ -16,35 +16,12 @@ use Rattle.pages.specs.Refusals.{Page, Good}
 
 -- ---- the filler
 
-zero-step : (p : List ℕ) (i : ℕ) → i < check_place → check_place ≤ length p → all_zero (drop i (take check_place p)) ≡ (eqb (get_or p i 0) 0 && all_zero (drop (i + 1) (take check_place p)))
+pub zero-all : (xs : List ℕ) → list_all (λ b. eqb b 0) xs ≡ all_zero xs
 unfolding all_zero
-zero-step p i h l = ap all_zero (slice-cons i check_place p 0 h l) ∙ ap (λ (n : ℕ). eqb (get_or p i 0) 0 && all_zero (drop n (take check_place p))) (sym (add-one i))
-
-module _ (p : List ℕ) (i : ℕ) (l : length p ≡ page_size) (inv : filler_ok p ≡ all_zero (drop i (take check_place p))) where
-  pub dirty : i < check_place → (get_or p i 0 ≡ 0 → ⊥) → false ≡ filler_ok p
-  dirty h d = sym (inv ∙ zero-step p i h (omega arith) ∙ rw (ne_eqb (get_or p i 0) 0 d))
-
-  pub clean : i < check_place → get_or p i 0 ≡ 0 → filler_ok p ≡ all_zero (drop (i + 1) (take check_place p))
-  clean h d = inv ∙ zero-step p i h (omega arith) ∙ rw (eq-eqb (get_or p i 0) 0 d)
-
-  pub cleared : check_place ≤ i → true ≡ filler_ok p
-  unfolding all_zero
-  cleared h = sym (inv ∙ ap all_zero (drop_of_length-le (take check_place p) {i = i} (omega (arith, length-take-le check_place p (omega arith)))))
+zero-all [] = refl
+zero-all (x ∷ xs) = ap (λ (r : Bool). eqb x 0 && r) (zero-all xs)
 
 -- ---- a payload's length
-
-module _ (last : Bool) (n : ℕ) where
-  pub length-low : last ≡ true → n < 1 → false ≡ length_ok last n
-  unfolding length_ok
-  length-low e h = rw (e, lt-leb 1 n h)
-
-  pub length_last : last ≡ true → 1 ≤ n → leb n payload_room ≡ length_ok last n
-  unfolding length_ok
-  length_last e h = rw (e, le-leb 1 n h)
-
-  pub length-full : last ≡ false → eqb n payload_room ≡ length_ok last n
-  unfolding length_ok
-  length-full e = rw e
 
 pub and_left : (a b : Bool) → (a && b) ≡ true → a ≡ true
 and_left true b h = refl
@@ -72,11 +49,6 @@ page-part file k =
 
 pub length-page_in : (file : List ℕ) (k : ℕ) → k * page_size + page_size ≤ length file → length (page_in file k) ≡ page_size
 length-page_in file k h = length-take-le page_size (drop (k * page_size) file) (omega (arith, length-drop (k * page_size) file))
-
-pub payload_part : (p : List ℕ) (n : ℕ) → n ≡ length_in p → take (n + 2 - 2) (drop 2 p) ≡ payload_of p
-payload_part p n e =
-    let s : n + 2 - 2 ≡ length_in p = omega arith in
-    rw s
 
 pub length_payload : (p : List ℕ) → length p ≡ page_size → length_in p ≤ payload_room → length (payload_of p) ≡ length_in p
 length_payload p e h = length-take-le (length_in p) (drop 2 p) (omega (arith, length-drop 2 p))

@@ -1,5 +1,6 @@
 -- Laws of a file as it is written, page after page. Assumes nothing.
-use Rattle.std.proofs.Common.{◌≡◌, ℕ, zero, suc, ◌+◌, ◌-◌, ◌*◌, ◌<◌, ◌≤◌, List, [], ◌++◌, length, take, drop, sym, refl, ◌∙◌, add-one, arith, length-append, length-drop, length-take, take_all}
+use Rattle.std.proofs.Common.{◌≡◌, ℕ, zero, suc, ◌+◌, ◌-◌, ◌*◌, ◌≤◌, List, [], ◌++◌, length, take, drop, sym, refl, ◌∙◌, add-one, arith, length-append, length-drop, length-take, min}
+use Rattle.std.proofs.lemmas.List.{take_min}
 use native.Mathlib.Nat.{min-le_left}
 use Rattle.definitions.specs.Pages.{page_size, payload_room, pages_for, page_of, piece_of, pages_to, file_of}
 use Rattle.buffers.specs.Words.{over}
@@ -12,16 +13,12 @@ piece_le rule k = rw length-take (min-le_left payload_room (length (drop (k * pa
 pub part_le : (rule part : List ℕ) (k : ℕ) → part ≡ piece_of rule k → length part ≤ payload_room
 part_le rule part k e = rw e (piece_le rule k)
 
--- the last piece, and a full one, as `piece` cuts them out
-pub piece_tail : (rule : List ℕ) (k : ℕ) → length rule - k * payload_room < payload_room → take (length rule - k * payload_room) (drop (k * payload_room) rule) ≡ piece_of rule k
-piece_tail rule k h =
-    let l = length-drop (k * payload_room) rule in
-    take_all (length rule - k * payload_room) (drop (k * payload_room) rule) (omega (arith, l)) ∙ sym (take_all payload_room (drop (k * payload_room) rule) (omega (arith, l)))
-
-pub piece_full : (rule : List ℕ) (k : ℕ) → take (k * payload_room + payload_room - k * payload_room) (drop (k * payload_room) rule) ≡ piece_of rule k
-piece_full rule k =
-    let e : k * payload_room + payload_room - k * payload_room ≡ payload_room = omega arith in
-    rw e
+-- a piece as `piece` cuts it out: it ends where the rule does, if that comes first
+pub piece_cut : (rule : List ℕ) (k e : ℕ) → e ≡ min (length rule) (k * payload_room + payload_room) → take (e - k * payload_room) (drop (k * payload_room) rule) ≡ piece_of rule k
+piece_cut rule k e h =
+    let rest = drop (k * payload_room) rule in
+    let s : e - k * payload_room ≡ min payload_room (length rest) = omega (arith, length-drop (k * payload_room) rule) in
+    rw s (take_min payload_room rest)
 
 pub length-pages_to : (rule : List ℕ) (k : ℕ) → length (pages_to rule k) ≡ k * page_size
 unfolding pages_to

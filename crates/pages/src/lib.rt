@@ -33,12 +33,10 @@ pub fn check(p: &[u8], number: u16) -> u16
     ensures { result ≡ check_of number p.now }
 {
     let mut sum: u16 = 0;
-    let mut i: usize = 0;
-    while i < SUMMED_WORDS {
-        sum = std::num::wrapping_add_u16(sum, buffers::word_at(p, 2 * i));
-        i += 1;
+    for i in 0..SUMMED_WORDS {
+        sum = sum.wrapping_add(buffers::word_at(p, 2 * i));
     }
-    std::num::wrapping_add_u16(sum, number)
+    sum.wrapping_add(number)
 }
 
 // The page of this number that holds all of src: the bytes between payload and check stay zero.
@@ -46,9 +44,8 @@ pub fn page_of(src: &[u8], number: u16) -> [u8; PAGE_SIZE]
     requires { length src.now ≤ payload_room }
     ensures { result ≡ page_of number src.now }
 {
-    let n = src.len() as u16;
     let mut p = [0u8; PAGE_SIZE];
-    buffers::put16_at(&mut p, 0, n);
+    buffers::put16_at(&mut p, 0, src.len() as u16);
     buffers::copy_at(&mut p, 2, src);
     let c = check(&p, number);
     buffers::put16_at(&mut p, CHECK_PLACE, c);
@@ -61,12 +58,7 @@ fn piece(rule: &[u8], k: usize) -> &[u8]
     ensures { result.now ≡ piece_of rule.now k }
 {
     let a = k * PAYLOAD_ROOM;
-    if rule.len() - a < PAYLOAD_ROOM {
-        &rule[a..]
-    } else {
-        let e = a + PAYLOAD_ROOM;
-        &rule[a..e]
-    }
+    &rule[a..rule.len().min(a + PAYLOAD_ROOM)]
 }
 
 // How many pages n bytes take.
@@ -90,13 +82,9 @@ pub fn put_file(rule: &[u8], out: &mut [u8])
     requires { (length rule.now ≤ longest) × (pages_for (length rule.now) * page_size ≤ length out.old) }
     ensures { out.new ≡ file_of rule.now ++ drop (pages_for (length rule.now) * page_size) out.old }
 {
-    let pages = pages_for(rule.len());
-    let mut k: usize = 0;
-    while k < pages {
-        let part = piece(rule, k);
-        let p = page_of(part, k as u16);
+    for k in 0..pages_for(rule.len()) {
+        let p = page_of(piece(rule, k), k as u16);
         buffers::copy_at(out, k * PAGE_SIZE, &p);
-        k += 1;
     }
 }
 
@@ -106,8 +94,7 @@ fn page_in(file: &[u8], k: usize) -> &[u8]
     ensures { (result.now ≡ page_in file.now k) × (length result.now ≡ page_size) }
 {
     let a = k * PAGE_SIZE;
-    let e = a + PAGE_SIZE;
-    &file[a..e]
+    &file[a..a + PAGE_SIZE]
 }
 
 // The bytes that a page holds.
@@ -115,8 +102,7 @@ fn payload(p: &[u8]) -> &[u8]
     requires { (length p.now ≡ page_size) × (length_in p.now ≤ payload_room) }
     ensures { result.now ≡ payload_of p.now }
 {
-    let e = length_in(p) as usize + 2;
-    &p[2..e]
+    &p[2..length_in(p) as usize + 2]
 }
 
 // Whether the bytes between payload and check are all zero.
@@ -124,14 +110,8 @@ fn filler_ok(p: &[u8]) -> bool
     requires { length p.now ≡ page_size }
     ensures { result ≡ filler_ok p.now }
 {
-    let mut i = length_in(p) as usize + 2;
-    while i < CHECK_PLACE {
-        if p[i] != 0 {
-            return false;
-        }
-        i += 1;
-    }
-    true
+    let from = length_in(p) as usize + 2;
+    p[..CHECK_PLACE].iter().skip(from).all(|b| *b == 0)
 }
 
 // Whether a page, the last or not, may hold n bytes.
@@ -139,10 +119,7 @@ fn length_ok(last: bool, n: usize) -> bool
     ensures { result ≡ length_ok last n }
 {
     if last {
-        if n < 1 {
-            return false;
-        }
-        n <= PAYLOAD_ROOM
+        (1..=PAYLOAD_ROOM).contains(&n)
     } else {
         n == PAYLOAD_ROOM
     }
@@ -194,13 +171,7 @@ fn scan_pages(file: &[u8], pages: usize) -> Reply
 fn size_ok(n: usize) -> bool
     ensures { result ≡ size_ok n }
 {
-    if n == 0 {
-        return false;
-    }
-    if LONGEST_FILE < n {
-        return false;
-    }
-    n % PAGE_SIZE == 0
+    n != 0 && n <= LONGEST_FILE && n % PAGE_SIZE == 0
 }
 
 // How many bytes a file holds, or why it is refused: for any bytes.
@@ -220,14 +191,10 @@ pub fn unpack(file: &[u8], out: &mut [u8])
     requires { Fits (unpacked file.now) (length out.old) }
     ensures { out.new ≡ bytes_in (unpacked file.now) ++ drop (length (bytes_in (unpacked file.now))) out.old }
 {
-    let pages = file.len() / PAGE_SIZE;
     let mut at: usize = 0;
-    let mut k: usize = 0;
-    while k < pages {
-        let p = page_in(file, k);
-        let part = payload(p);
+    for k in 0..file.len() / PAGE_SIZE {
+        let part = payload(page_in(file, k));
         buffers::copy_at(out, at, part);
         at += part.len();
-        k += 1;
     }
 }

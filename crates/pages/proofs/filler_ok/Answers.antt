@@ -1,19 +1,20 @@
--- `pages::filler_ok` meets its contract: what is passed was zero, so what is left decides.
-use Rattle.std.proofs.Common.{arith}
-use Rattle.pages.proofs.Reading.{dirty, clean, cleared}
+-- `pages::filler_ok` meets its contract: `all` over what follows the payload, up to the check.
+use Rattle.std.proofs.Common.{◌≡◌, ◌+◌, take, drop, eqb, sym, ◌∙◌, arith, length-take-le, rules, tests}
+use Rattle.std.specs.List.{list_all}
+use Rattle.std.proofs.lemmas.Iterator.{YieldsList-from_slice}
+use Rattle.std.proofs.lemmas.Iterator.Adapters.{YieldsList-from_skip}
+use Rattle.std.proofs.lemmas.Iterator.Search.{all_from_yields_List}
+use Rattle.definitions.specs.Pages.{check_place}
+use Rattle.pages.proofs.Reading.{zero-all}
 use Rattle.pages.proofs.filler_ok.Goals as goal
 
-pub returns-then-p-i-ne0 : goal.returns-then-p-i-ne0
-returns-then-p-i-ne0 c =
-    let l = c.loop-i in
-    dirty c.args.p.now l.i c.requires l.invariant (omega arith) c.if-p-i-ne0.true
-
-pub loop-i-preserved : goal.loop-i-preserved
-loop-i-preserved c =
-    let l = c.loop-i in
-    clean c.args.p.now l.i c.requires l.invariant (omega arith) c.if-p-i-ne0.false
+pub slice_bounds-iter-end : goal.slice_bounds-iter-end
+slice_bounds-iter-end c = sym (length-take-le check_place c.args.p.now (omega arith))
 
 pub returns : goal.returns
 returns c =
-    let l = c.loop-i in
-    cleared c.args.p.now l.i c.requires l.invariant (omega arith)
+    let p = take check_place c.args.p.now in
+    let from = c.length_in.result + 2 in
+    let h : c.all.result ≡ list_all (λ b. eqb b 0) (drop from p) =
+    all_from_yields_List (λ b. eqb b 0) _ _ _ c.all.ensures.ran (YieldsList-from_skip from (YieldsList-from_slice p cc) c.skip.ensures.count) (λ x b q k. search (rules, tests)) in
+    rw (← c.length_in.ensures) (h ∙ zero-all (drop from p))
