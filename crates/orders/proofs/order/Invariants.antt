@@ -1,11 +1,7 @@
 -- `orders::order` meets its contract. After i places the array has the order's first i blocks, and they are done.
-use Prim.Native.Nat.{◌-◌, ◌≤◌}
 use Rattle.closure.specs.Tables.{edge_in}
 use Rattle.orders.proofs.Turns.{Sofar}
 use Rattle.orders.proofs.order.Given as goal
 
 abbrev pub invariant-loop-i : goal.invariant-loop-i
-invariant-loop-i l = (l.i ≤ l.n) × Sofar l.n (edge_in l.edges) l.i l.out l.done
-
-abbrev pub decreases-loop-i : goal.decreases-loop-i
-decreases-loop-i l = l.n - l.i
+invariant-loop-i l = Sofar l.n (edge_in l.edges) l.i l.out l.done

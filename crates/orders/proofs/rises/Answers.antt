@@ -4,5 +4,5 @@ use Rattle.definitions.proofs.Ordered.{only_up}
 use borrow.Author.Tests.{not-true}
 use Rattle.orders.proofs.rises.Goals as goal
 
-pub returns : goal.returns
-returns c = λ e. only_up _ _ (sym c.goes_back.ensures ∙ c.if-goes_back.false) (sym c.stays.ensures ∙ not-true _ e)
+pub returns-then-not-goes_back : goal.returns-then-not-goes_back
+returns-then-not-goes_back c = λ e. only_up _ _ (sym c.goes_back.ensures ∙ c.if-not-goes_back.true) (sym c.stays.ensures ∙ not-true _ e)
