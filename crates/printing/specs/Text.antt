@@ -1,9 +1,8 @@
 -- 01, the program, and K4 of 02: the text that it prints of a batch's result, and of a refusal.
-use Rattle.std.specs.Prelude.{ℕ, zero, suc, ◌+◌, ◌*◌, ◌/◌, ◌%◌, min, cond, List, [], ◌∷◌, ◌++◌, ◌≡◌, ltb, pos, negsuc, length, get_or}
+use Rattle.std.specs.Prelude.{ℕ, zero, suc, ◌+◌, ◌*◌, ◌/◌, ◌%◌, min, cond, List, [], ◌∷◌, ◌++◌, ltb, pos, negsuc, get_or}
 use Rattle.definitions.specs.Values.{Word}
 use Rattle.definitions.specs.Batch.{record_size}
 use Rattle.definitions.specs.Finder.{most_quota}
-use Rattle.buffers.specs.Words.{over}
 
 -- ---- numbers
 
@@ -74,8 +73,3 @@ text_room = 65536
 unfoldable pub refusal_text : ℕ → ℕ → List ℕ
 refusal_text number place =
     ((114 ∷ 101 ∷ 102 ∷ 117 ∷ 115 ∷ 101 ∷ 100 ∷ space) ++ decimal number) ++ ((space ++ decimal place) ++ newline)
-
--- ---- writing: s is put into d from index `at` on, which gives new, and `next` is the index after it
-pub record Put (d : List ℕ) (at : ℕ) (s : List ℕ) (new : List ℕ) (next : ℕ) : Type 0 where
-  pub text : new ≡ over d at s
-  pub next' : next ≡ at + length s
