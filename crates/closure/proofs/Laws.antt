@@ -1,5 +1,5 @@
 -- An array that a loop writes from the front, one number after the other. Assumes nothing.
-use mathlib.Core.Path.{◌≡◌, refl, ◌∙◌}
+use mathlib.Core.Path.{◌≡◌, ◌∙◌}
 use mathlib.Core.List.{List}
 use Prim.Native.Nat.{ℕ, ◌+◌, ◌*◌, ◌/◌, ◌%◌, ◌≤◌, ◌<◌}
 use native.Mathlib.Nat.{mul-le-mul_right}
@@ -35,23 +35,16 @@ pub in_rows : {A : Type 0} (d : A) (size w n i : ℕ) (f : ℕ → ℕ → ℕ �
 unfolding entry_of
 in_rows d size w n i f new h g b t l m = rw (digits_div b m, digits_mod b m) at (g.below (b * w + t) (omega (arith, mul-le-mul_right w l)))
 
--- and from b on stands what stood there
-pub record Filled {A : Type 0} (d : A) (b : ℕ) (f : ℕ → A) (old new : List A) : Type 0 where
-  pub done : Written d (length old) b f new
-  pub rest : (i : ℕ) → b ≤ i → get_or new i d ≡ get_or old i d
+-- after b numbers R holds of what stands at each below b
+pub record Held {A : Type 0} (d : A) (size b : ℕ) (R : ℕ → A → Type 0) (new : List A) : Type 0 where
+  pub long : length new ≡ size
+  pub below : (i : ℕ) → i < b → R i (get_or new i d)
 
-module _ {A : Type 0} (d : A) (f : ℕ → A) (old : List A) where
-  pub filled_none : Filled d 0 f old old
-  filled_none = record { done = written_none d (length old) f old refl; rest = λ i l. refl }
-
-  pub filled-set : (b : ℕ) (new : List A) (v : A) → b < length old → Filled d b f old new → v ≡ f b → Filled d (b + 1) f old (set new b v)
-  filled-set b new v h w e = record {
-    done = written-set d (length old) f b new v h w.done e;
-    rest = λ i l. get_or-set_other new b i v d (λ q. omega arith) ∙ w.rest i (omega arith);
-  }
-
-  pub filled_keep : (b : ℕ) (new : List A) → Filled d b f old new → get_or old b d ≡ f b → Filled d (b + 1) f old new
-  filled_keep b new w e = record {
-    done = record { long = w.done.long; below = below_more _ b w.done.below (w.rest b (omega arith) ∙ e) };
-    rest = λ i l. w.rest i (omega arith);
+module _ {A : Type 0} (d : A) (size : ℕ) (R : ℕ → A → Type 0) where
+  pub held-set : (b : ℕ) (new : List A) (v : A) → b < size → Held d size b R new → R b v → Held d size (b + 1) R (set new b v)
+  held-set b new v h w r = record {
+    long = length-set new b v ∙ w.long;
+    below = below_more _ b
+        (λ i l. let o : i ≡ b → ⊥ = omega arith in rw get_or-set_other (w.below i l))
+        (let s : b < length new = omega (arith, w.long) in rw get_or-set_same r);
   }

@@ -13,15 +13,6 @@ use Rattle.definitions.proofs.Reached.{grown_case, grown_mono, still_closed}
 use Rattle.closure.specs.Sweep.{Sweep}
 
 module _ (n : ℕ) (edge : ℕ → ℕ → Bool) (old : ℕ → Bool) where
-  pub sweep_none : Sweep n edge old n old false
-  sweep_none = record {
-    keeps = λ c h p. p;
-    sound = λ u k w. w;
-    same = λ e c h p. p;
-    idle = λ e c l h p. absurd (omega arith);
-    busy = λ e. absurd (false≢true e);
-  }
-
   -- nothing is to be added at b - 1: it is there, or no edge goes from it into the set
   pub sweep_stay : (b : ℕ) (new : ℕ → Bool) (more : Bool) → 0 < b → Sweep n edge old b new more
       → (new (b - 1) ≡ true) ⊎ (some n (λ t. edge (b - 1) t && new t) ≡ false) → Sweep n edge old (b - 1) new more

@@ -2,7 +2,7 @@
 // backwards under edges. Also a mask's bits, and a column's place in a line.
 #![tactic(auto)]
 
-ghost use Rattle.std.specs.Prelude.{◌≡◌, not, cond, ◌&&◌, ◌||◌, ℕ, ◌+◌, ◌≤◌, ◌<◌, get_or, eqb};
+ghost use Rattle.std.specs.Prelude.{◌≡◌, false, ◌*◌, not, cond, ◌&&◌, ◌||◌, ℕ, ◌+◌, ◌≤◌, ◌<◌, get_or, eqb};
 ghost use Rattle.definitions.specs.Grammar.{most_variables, most_blocks};
 ghost use Rattle.definitions.specs.Columns.{Flow, some, among};
 ghost use Rattle.definitions.specs.Smallest.{Smallest};
@@ -20,6 +20,54 @@ pub type Edges = [bool; BLOCKS * BLOCKS];
 
 pub type Variables = [bool; BLOCKS * VARIABLES];
 
+// The blocks below n for which a test holds.
+pub fn blocks_where<F: Fn(usize) -> bool>(n: usize, test: F) -> Blocks
+    requires size { n ≤ most_blocks }
+    requires callable { (b : ℕ) → b < n → F.pre test b }
+    ensures { (b : ℕ) → b < n → F.post test b (among result b) }
+{
+    let mut out = [false; BLOCKS];
+    for b in 0..n {
+        out[b] = test(b);
+    }
+    out
+}
+
+// For each block below n the places of its row for which a test holds.
+fn rows_where<const WIDTH: usize, const SIZE: usize, F: Fn(usize, usize) -> bool>(
+    n: usize,
+    test: F,
+) -> [bool; SIZE]
+    requires width { 0 < WIDTH }
+    requires size { n * WIDTH ≤ SIZE }
+    requires callable { (b t : ℕ) → b < n → t < WIDTH → F.pre test b t }
+    ensures { (b t : ℕ) → b < n → t < WIDTH → F.post test b t (get_or result (b * WIDTH + t) false) }
+{
+    let mut out = [false; SIZE];
+    for i in 0..n * WIDTH {
+        out[i] = test(i / WIDTH, i % WIDTH);
+    }
+    out
+}
+
+// The edges from a block below n for which a test holds of their start and end.
+pub fn edges_where<F: Fn(usize, usize) -> bool>(n: usize, test: F) -> Edges
+    requires size { n ≤ most_blocks }
+    requires callable { (b t : ℕ) → b < n → t < most_blocks → F.pre test b t }
+    ensures { (b t : ℕ) → b < n → t < most_blocks → F.post test b t (edge_in result b t) }
+{
+    rows_where::<BLOCKS, _, F>(n, test)
+}
+
+// The variables of a block below n for which a test holds.
+pub fn variables_where<F: Fn(usize, usize) -> bool>(n: usize, test: F) -> Variables
+    requires size { n ≤ most_blocks }
+    requires callable { (b k : ℕ) → b < n → k < most_variables → F.pre test b k }
+    ensures { (b k : ℕ) → b < n → k < most_variables → F.post test b k (variable_in result b k) }
+{
+    rows_where::<VARIABLES, _, F>(n, test)
+}
+
 // Some edge goes from b into the set.
 fn feeds(n: usize, edges: &Edges, set: &Blocks, b: usize) -> bool
     requires { (n ≤ most_blocks) × (b < most_blocks) }
@@ -28,31 +76,19 @@ fn feeds(n: usize, edges: &Edges, set: &Blocks, b: usize) -> bool
     (0..n).any(|t| edges[b * BLOCKS + t] && set[t])
 }
 
-// What a sweep leaves, and whether it added a number.
-#[derive(Drop)]
-struct Swept {
-    set: Blocks,
-    more: bool,
-}
-
-// One sweep from the last number to the first, in which a number that is added counts at once.
-fn sweep(n: usize, edges: &Edges, old: Blocks) -> Swept
+// One sweep in place from the last number to the first, in which a number that is added counts at once; whether one was added.
+fn sweep(n: usize, edges: &Edges, set: &mut Blocks) -> bool
     requires { n ≤ most_blocks }
-    ensures { Sweep n (edge_in edges.now) (among old) 0 (among result.set) result.more }
+    ensures { Sweep n (edge_in edges.now) (among set.old) 0 (among set.new) result }
 {
-    let mut set = old;
     let mut more = false;
-    let mut b = n;
-    while 0 < b {
-        b -= 1;
-        if !set[b] {
-            if feeds(n, edges, &set, b) {
-                set[b] = true;
-                more = true;
-            }
+    for b in (0..n).rev() {
+        if !set[b] && feeds(n, edges, set, b) {
+            set[b] = true;
+            more = true;
         }
     }
-    Swept { set, more }
+    more
 }
 
 // The smallest set that holds the seed and, with the end of an edge, its start: sweeps in place until one adds nothing.
@@ -61,36 +97,8 @@ pub fn smallest(n: usize, seed: &Blocks, edges: &Edges) -> Blocks
     ensures { Smallest n (among seed.now) (edge_in edges.now) (among result) }
 {
     let mut set = *seed;
-    loop {
-        let s = sweep(n, edges, set);
-        let next = s.set;
-        if !s.more {
-            return next;
-        }
-        set = next;
-    }
-}
-
-// Either of two tests.
-fn either(x: bool, y: bool) -> bool
-    ensures { result ≡ (x || y) }
-{
-    x || y
-}
-
-// The blocks that each block names, by a goto or by a jump.
-fn naming(n: usize, gotos: &Edges, jumps: &Edges) -> Edges
-    requires { n ≤ most_blocks }
-    ensures { (b t : ℕ) → b < n → t < most_blocks → edge_in result b t ≡ (edge_in gotos.now b t || edge_in jumps.now b t) }
-{
-    let mut out = [false; BLOCKS * BLOCKS];
-    let end = n * BLOCKS;
-    let mut i = 0;
-    while i < end {
-        out[i] = either(gotos[i], jumps[i]);
-        i += 1;
-    }
-    out
+    while sweep(n, edges, &mut set) {}
+    set
 }
 
 // Whether block t is the entry, or some jump goes there.
@@ -101,104 +109,30 @@ fn restarts(n: usize, jumps: &Edges, t: usize) -> bool
     t == 0 || (0..n).any(|b| jumps[b * BLOCKS + t])
 }
 
-// J.
-fn restarting(n: usize, jumps: &Edges) -> Blocks
-    requires { n ≤ most_blocks }
-    ensures { (t : ℕ) → t < n → among result t ≡ (eqb t 0 || some n (λ b. edge_in jumps.now b t)) }
-{
-    let mut out = [false; BLOCKS];
-    let mut t = 0;
-    while t < n {
-        out[t] = restarts(n, jumps, t);
-        t += 1;
-    }
-    out
-}
-
-// The blocks that read variable k.
-fn reading(n: usize, k: usize, fv: &Variables) -> Blocks
-    requires { (n ≤ most_blocks) × (k < most_variables) }
-    ensures { (b : ℕ) → b < n → among result b ≡ variable_in fv.now b k }
-{
-    let mut out = [false; BLOCKS];
-    let mut b = 0;
-    while b < n {
-        out[b] = fv[b * VARIABLES + k];
-        b += 1;
-    }
-    out
-}
-
-// A need passes back to a block that names another and does not set the variable, and between any two blocks in J.
-fn passed(named: bool, bound: bool, from: bool, to: bool) -> bool
-    ensures { result ≡ (named && not bound || from && to) }
-{
-    if named {
-        if !bound {
-            return true;
-        }
-    }
-    if from {
-        return to;
-    }
-    false
-}
-
-// The table of where a need of variable k passes.
-fn passes(n: usize, k: usize, bv: &Variables, names: &Edges, j: &Blocks) -> Edges
-    requires { (n ≤ most_blocks) × (k < most_variables) }
-    ensures { (b t : ℕ) → b < n → t < most_blocks → edge_in result b t ≡ passing bv.now names.now j.now k b t }
-{
-    let mut out = [false; BLOCKS * BLOCKS];
-    let end = n * BLOCKS;
-    let mut i = 0;
-    while i < end {
-        let b = i / BLOCKS;
-        let t = i % BLOCKS;
-        out[i] = passed(names[i], bv[b * VARIABLES + k], j[b], j[t]);
-        i += 1;
-    }
-    out
-}
-
-// The blocks that have variable k among their inputs.
+// The blocks that have variable k among their inputs. A need passes back to a block that names another and does not set the variable, and between
+// any two blocks in J.
 fn needing(n: usize, k: usize, fv: &Variables, bv: &Variables, names: &Edges, j: &Blocks) -> Blocks
     requires { (n ≤ most_blocks) × (k < most_variables) }
     ensures { Smallest n (λ b. variable_in fv.now b k) (passing bv.now names.now j.now k) (among result) }
 {
-    let seed = reading(n, k, fv);
-    let edges = passes(n, k, bv, names, j);
+    let seed = blocks_where(n, |b| fv[b * VARIABLES + k]);
+    let edges = edges_where(
+        n,
+        |b, t| names[b * BLOCKS + t] && !bv[b * VARIABLES + k] || j[b] && j[t],
+    );
     smallest(n, &seed, &edges)
 }
 
-// The blocks that have it among their outputs: they name one of these.
-fn handing(n: usize, names: &Edges, need: &Blocks) -> Blocks
-    requires { n ≤ most_blocks }
-    ensures { (b : ℕ) → b < n → among result b ≡ some n (λ t. edge_in names.now b t && among need.now t) }
-{
-    let mut out = [false; BLOCKS];
-    let mut b = 0;
-    while b < n {
-        out[b] = feeds(n, names, need, b);
-        b += 1;
-    }
-    out
-}
-
 // A power of two added to the masks of the blocks of a set.
-fn marked(n: usize, masks: [u16; BLOCKS], set: &Blocks, power: u16) -> [u16; BLOCKS]
-    requires { (n ≤ most_blocks) × ((b : ℕ) → b < n → get_or masks b 0 + power < 65536) }
-    ensures { (b : ℕ) → b < n → get_or result b 0 ≡ get_or masks b 0 + cond (among set.now b) power 0 }
+fn mark(n: usize, masks: &mut [u16; BLOCKS], set: &Blocks, power: u16)
+    requires { (n ≤ most_blocks) × ((b : ℕ) → b < n → get_or masks.old b 0 + power < 65536) }
+    ensures { (b : ℕ) → b < n → get_or masks.new b 0 ≡ get_or masks.old b 0 + cond (among set.now b) power 0 }
 {
-    let mut out = masks;
-    let mut b = 0;
-    while b < n {
+    for b in 0..n {
         if set[b] {
-            out[b] += power;
+            masks[b] += power;
         }
-        b += 1;
     }
-    out
 }
 
 // The masks of each block's inputs and outputs, and J.
@@ -222,20 +156,15 @@ pub fn columns(
     ensures { (g : Flow) → Tables g n v fv.now bv.now gotos.now jumps.now
         → Columned g n v result.inputs result.outputs result.j }
 {
-    let names = naming(n, gotos, jumps);
-    let j = restarting(n, jumps);
+    let names = edges_where(n, |b, t| gotos[b * BLOCKS + t] || jumps[b * BLOCKS + t]);
+    let j = blocks_where(n, |t| restarts(n, jumps, t));
     let mut inputs = [0u16; BLOCKS];
     let mut outputs = [0u16; BLOCKS];
-    let mut k = 0;
-    while k < v {
-        let power = 1u16 << k;
+    for k in 0..v {
         let need = needing(n, k, fv, bv, &names, &j);
-        let out = handing(n, &names, &need);
-        let ins = marked(n, inputs, &need, power);
-        let outs = marked(n, outputs, &out, power);
-        inputs = ins;
-        outputs = outs;
-        k += 1;
+        let out = blocks_where(n, |b| feeds(n, &names, &need, b));
+        mark(n, &mut inputs, &need, 1 << k);
+        mark(n, &mut outputs, &out, 1 << k);
     }
     ColumnSets { inputs, outputs, j }
 }
@@ -254,5 +183,5 @@ pub fn place(mask: u16, k: usize) -> usize
     ensures { result ≡ count_to k (bit_of mask) }
 {
     let lower = (mask as u32) % (1u32 << k);
-    u32::count_ones(lower) as usize
+    lower.count_ones() as usize
 }

@@ -7,8 +7,8 @@ use Rattle.definitions.specs.Batch.{count_to}
 use Rattle.closure.specs.Tables.{edge_in}
 use Rattle.closure.proofs.smallest.Given as goal
 
-abbrev pub invariant-loop-next : goal.invariant-loop-next
-invariant-loop-next l = Within l.n (among l.seed) (among l.set) × ((u : ℕ → Bool) → Closed l.n (among l.seed) (edge_in l.edges) u → Within l.n (among l.set) u)
+abbrev pub invariant-loop : goal.invariant-loop
+invariant-loop l = Within l.n (among l.seed) (among l.set) × ((u : ℕ → Bool) → Closed l.n (among l.seed) (edge_in l.edges) u → Within l.n (among l.set) u)
 
-abbrev pub decreases-loop-next : goal.decreases-loop-next
-decreases-loop-next l = l.n - count_to l.n (among l.set)
+abbrev pub decreases-loop : goal.decreases-loop
+decreases-loop l = l.n - count_to l.n (among l.set)
