@@ -9,6 +9,7 @@ use mathlib.Core.Bool.{Bool, true, false, not}
 use mathlib.Core.List.{List}
 use lib.IntN.{ℤ, pos}
 use lib.ListN.{length, get_or}
+use Rattle.std.specs.Prelude.{Result, Ok, Err}
 use Rattle.definitions.specs.Values.{Word, value, negation}
 use Rattle.definitions.specs.Rule.{Joint, Expr, Cond, Const, Var, Op, Case, Compare, Not, Join}
 use Rattle.definitions.specs.Grammar.{Got, got, refused, then, one, two, constant_in, constant_at, variable_at, expr_at, cond_at, expr_body, cond_body}
@@ -21,9 +22,6 @@ use Rattle.values.specs.Tags.{operator_of, relation_of, joint_of}
 use Rattle.values.proofs.Tags.{operator_tag, relation_tag, joint_tag}
 use Rattle.evaluators.specs.Skip.{past}
 use Rattle.evaluators.specs.Answer.{Sized, Readable, value_at, answer, holding, pair_of, pairs, answers, picked, case_from}
-use Rattle.evaluators.specs.declared.Evaluated.{Evaluated}
-use Rattle.evaluators.specs.declared.Verdict.{Verdict}
-use Rattle.evaluators.specs.declared.Both.{Both}
 use Rattle.evaluators.proofs.Reading.{no_got, one-got, byte-got, constant-got, variable_got}
 use Rattle.evaluators.proofs.Skipping.{expr_past, cond-past, past_one}
 use Rattle.evaluators.proofs.Sizes.{expr_size_lem, cond-size}
@@ -60,27 +58,27 @@ two-pairs f E at st = then-first (pairs E at) _ (rw (two-map f E at) at st)
 
 -- ---- two expressions
 module _ (left v : ℕ) (s : List ℕ) (at : ℕ) (env : List Word) (st : Readable (pairs (expr_at left v s) at)) where
-  pub two-next : (x : ℤ) (n : ℕ) → answer (expr_at left v s at) at env ≡ Evaluated.Value x n → Readable (expr_at left v s n)
+  pub two-next : (x : ℤ) (n : ℕ) → answer (expr_at left v s at) at env ≡ Ok (x, n) → Readable (expr_at left v s n)
   two-next x n h =
       let g₁ = value-is env at (expr_at left v s at) x n h in
       let u = two-second pair_of (expr_at left v s) at g₁.0 n g₁.1 st in
       is-got (expr_at left v s n) u.0 u.1 u.2
 
-  pub two-values : (x : ℤ) (n : ℕ) (y : ℤ) (m : ℕ) → answer (expr_at left v s at) at env ≡ Evaluated.Value x n → answer (expr_at left v s n) n env ≡ Evaluated.Value y m → Both.Values x y m ≡ answers (pairs (expr_at left v s) at) at env
+  pub two-values : (x : ℤ) (n : ℕ) (y : ℤ) (m : ℕ) → answer (expr_at left v s at) at env ≡ Ok (x, n) → answer (expr_at left v s n) n env ≡ Ok (y, m) → Ok (x, y, m) ≡ answers (pairs (expr_at left v s) at) at env
   unfolding answers
   two-values x n y m h g =
       let g₁ = value-is env at (expr_at left v s at) x n h in
       let u = value-is env n (expr_at left v s n) y m g in
       rw (g₁.1, u.1, sym (expr_size_lem left v s at g₁.0 n g₁.1), g₁.2, u.2)
 
-  pub two-fault : (k : Flaw) → answer (expr_at left v s at) at env ≡ Evaluated.Fault k → Both.Fault k ≡ answers (pairs (expr_at left v s) at) at env
+  pub two-fault : (k : Flaw) → answer (expr_at left v s at) at env ≡ Err k → Err k ≡ answers (pairs (expr_at left v s) at) at env
   unfolding answers
   two-fault k h =
       let g₁ = fault-is env at (expr_at left v s at) k (then-first _ _ st) h in
       let u = two-second pair_of (expr_at left v s) at g₁.0 g₁.1 g₁.2 st in
       rw (g₁.2, u.2, g₁.3)
 
-  pub two_fault_2 : (x : ℤ) (n : ℕ) (k : Flaw) → answer (expr_at left v s at) at env ≡ Evaluated.Value x n → answer (expr_at left v s n) n env ≡ Evaluated.Fault k → Both.Fault k ≡ answers (pairs (expr_at left v s) at) at env
+  pub two_fault_2 : (x : ℤ) (n : ℕ) (k : Flaw) → answer (expr_at left v s at) at env ≡ Ok (x, n) → answer (expr_at left v s n) n env ≡ Err k → Err k ≡ answers (pairs (expr_at left v s) at) at env
   unfolding answers
   two_fault_2 x n k h g =
       let g₁ = value-is env at (expr_at left v s at) x n h in
@@ -94,21 +92,21 @@ module _ (left v : ℕ) (s : List ℕ) (at : ℕ) (env : List Word) (st : Readab
       let u = two-second pair_of (expr_at left v s) at g₁.0 g₁.1 g₁.2 st in
       rw (past_one s (expr_at left v s) (expr_past left v s) at g₁.0 g₁.1 g₁.2) (is-got (expr_at left v s g₁.1) u.0 u.1 u.2)
 
-  pub arm_fault : (k : Flaw) → answer (expr_at left v s at) at env ≡ Evaluated.Fault k → Evaluated.Fault k ≡ picked true (pairs (expr_at left v s) at) at env
+  pub arm_fault : (k : Flaw) → answer (expr_at left v s at) at env ≡ Err k → Err k ≡ picked true (pairs (expr_at left v s) at) at env
   unfolding picked
   arm_fault k h =
       let g₁ = fault-is env at (expr_at left v s at) k (then-first _ _ st) h in
       let u = two-second pair_of (expr_at left v s) at g₁.0 g₁.1 g₁.2 st in
       rw (g₁.2, u.2, g₁.3)
 
-  pub arm_true : (x : ℤ) (n : ℕ) → answer (expr_at left v s at) at env ≡ Evaluated.Value x n → Evaluated.Value x (past 1 s n) ≡ picked true (pairs (expr_at left v s) at) at env
+  pub arm_true : (x : ℤ) (n : ℕ) → answer (expr_at left v s at) at env ≡ Ok (x, n) → Ok (x, past 1 s n) ≡ picked true (pairs (expr_at left v s) at) at env
   unfolding picked
   arm_true x n h =
       let g₁ = value-is env at (expr_at left v s at) x n h in
       let u = two-second pair_of (expr_at left v s) at g₁.0 n g₁.1 st in
       rw (g₁.1, u.2, g₁.2, past_one s (expr_at left v s) (expr_past left v s) n u.0 u.1 u.2)
 
-  pub arm_false : (r : Evaluated) → r ≡ answer (expr_at left v s (past 1 s at)) (past 1 s at) env → r ≡ picked false (pairs (expr_at left v s) at) at env
+  pub arm_false : (r : Result (ℤ × ℕ) Flaw) → r ≡ answer (expr_at left v s (past 1 s at)) (past 1 s at) env → r ≡ picked false (pairs (expr_at left v s) at) at env
   unfolding answer picked
   arm_false r e =
       let g₁ = got-is (expr_at left v s at) (then-first _ _ st) in
@@ -117,19 +115,19 @@ module _ (left v : ℕ) (s : List ℕ) (at : ℕ) (env : List Word) (st : Readab
 
 -- ---- a case
 module _ (left v : ℕ) (s : List ℕ) (at : ℕ) (env : List Word) (st : Readable (case_from (expr_at left v s) (cond_at left v s) at)) where
-  pub case_next : (h : Bool) (n : ℕ) → holding (cond_at left v s at) at env ≡ Verdict.Holds h n → Readable (pairs (expr_at left v s) n)
+  pub case_next : (h : Bool) (n : ℕ) → holding (cond_at left v s at) at env ≡ Ok (h, n) → Readable (pairs (expr_at left v s) n)
   case_next h n e =
       let g₁ = holds-is env at (cond_at left v s at) h n e in
       two-pairs (Case g₁.0) (expr_at left v s) n (then_next (cond_at left v s at) (λ c n. two (Case c) (expr_at left v s) n) g₁.0 n g₁.1 st)
 
-  pub case_fault : (k : Flaw) (p : ℕ) → at ≡ p + 1 → holding (cond_at left v s at) at env ≡ Verdict.Fault k → Evaluated.Fault k ≡ answer (case_from (expr_at left v s) (cond_at left v s) at) p env
+  pub case_fault : (k : Flaw) (p : ℕ) → at ≡ p + 1 → holding (cond_at left v s at) at env ≡ Err k → Err k ≡ answer (case_from (expr_at left v s) (cond_at left v s) at) p env
   unfolding answer eval
   case_fault k p i e =
       let g₁ = held_fault_is env at (cond_at left v s at) k (then-first _ _ st) e in
       let u = got-is (pairs (expr_at left v s) g₁.1) (two-pairs (Case g₁.0) (expr_at left v s) g₁.1 (then_next (cond_at left v s at) (λ c n. two (Case c) (expr_at left v s) n) g₁.0 g₁.1 g₁.2 st)) in
       rw (g₁.2, two-map (Case g₁.0) (expr_at left v s) g₁.1, u.2, sym i, g₁.3)
 
-  pub case_value : (h : Bool) (n : ℕ) (r : Evaluated) (p : ℕ) → at ≡ p + 1 → holding (cond_at left v s at) at env ≡ Verdict.Holds h n → r ≡ picked h (pairs (expr_at left v s) n) n env → r ≡ answer (case_from (expr_at left v s) (cond_at left v s) at) p env
+  pub case_value : (h : Bool) (n : ℕ) (r : Result (ℤ × ℕ) Flaw) (p : ℕ) → at ≡ p + 1 → holding (cond_at left v s at) at env ≡ Ok (h, n) → r ≡ picked h (pairs (expr_at left v s) n) n env → r ≡ answer (case_from (expr_at left v s) (cond_at left v s) at) p env
   unfolding answer eval picked
   case_value h n r p i e g =
       let g₁ = holds-is env at (cond_at left v s at) h n e in
@@ -141,13 +139,13 @@ module _ (left v : ℕ) (s : List ℕ) (at : ℕ) (env : List Word) (st : Readab
 
 -- ---- two conditions
 module _ (left v : ℕ) (s : List ℕ) (at : ℕ) (env : List Word) (j : Joint) (st : Readable (two (Join j) (cond_at left v s) at)) where
-  pub join_next : (h : Bool) (n : ℕ) → holding (cond_at left v s at) at env ≡ Verdict.Holds h n → Readable (cond_at left v s n)
+  pub join_next : (h : Bool) (n : ℕ) → holding (cond_at left v s at) at env ≡ Ok (h, n) → Readable (cond_at left v s n)
   join_next h n e =
       let g₁ = holds-is env at (cond_at left v s at) h n e in
       let u = two-second (Join j) (cond_at left v s) at g₁.0 n g₁.1 st in
       is-got (cond_at left v s n) u.0 u.1 u.2
 
-  pub join_fault : (k : Flaw) (p : ℕ) → at ≡ p + 1 → holding (cond_at left v s at) at env ≡ Verdict.Fault k → Verdict.Fault k ≡ holding (two (Join j) (cond_at left v s) at) p env
+  pub join_fault : (k : Flaw) (p : ℕ) → at ≡ p + 1 → holding (cond_at left v s at) at env ≡ Err k → Err k ≡ holding (two (Join j) (cond_at left v s) at) p env
   unfolding holding holds
   join_fault k p i e =
       let g₁ = held_fault_is env at (cond_at left v s at) k (then-first _ _ st) e in
@@ -155,14 +153,14 @@ module _ (left v : ℕ) (s : List ℕ) (at : ℕ) (env : List Word) (j : Joint) 
       rw (g₁.2, u.2, sym i, g₁.3)
 
   -- the left side decides, or not
-  pub join_left : (h : Bool) (n p : ℕ) → at ≡ p + 1 → holding (cond_at left v s at) at env ≡ Verdict.Holds h n → decided j h ≡ true → Verdict.Holds h (past 1 s n) ≡ holding (two (Join j) (cond_at left v s) at) p env
+  pub join_left : (h : Bool) (n p : ℕ) → at ≡ p + 1 → holding (cond_at left v s at) at env ≡ Ok (h, n) → decided j h ≡ true → Ok (h, past 1 s n) ≡ holding (two (Join j) (cond_at left v s) at) p env
   unfolding holding holds
   join_left h n p i e d =
       let g₁ = holds-is env at (cond_at left v s at) h n e in
       let u = two-second (Join j) (cond_at left v s) at g₁.0 n g₁.1 st in
       rw (g₁.1, u.2, sym i, g₁.2, d, past_one s (cond_at left v s) (cond-past left v s) n u.0 u.1 u.2)
 
-  pub join_right : (h : Bool) (n : ℕ) (r : Verdict) (p : ℕ) → at ≡ p + 1 → holding (cond_at left v s at) at env ≡ Verdict.Holds h n → decided j h ≡ false → r ≡ holding (cond_at left v s n) n env → r ≡ holding (two (Join j) (cond_at left v s) at) p env
+  pub join_right : (h : Bool) (n : ℕ) (r : Result (Bool × ℕ) Flaw) (p : ℕ) → at ≡ p + 1 → holding (cond_at left v s at) at env ≡ Ok (h, n) → decided j h ≡ false → r ≡ holding (cond_at left v s n) n env → r ≡ holding (two (Join j) (cond_at left v s) at) p env
   unfolding holding holds
   join_right h n r p i e d g =
       let g₁ = holds-is env at (cond_at left v s at) h n e in
@@ -205,7 +203,7 @@ module _ (left v : ℕ) (s : List ℕ) (at : ℕ) (st : Readable (expr_at left v
   pub const_there : get_or s at 0 ≡ 0x01 → at + 1 + 4 ≤ length s
   const_there e = (expr_const e).3
 
-  pub const_answer : (env : List Word) (r : Evaluated) → get_or s at 0 ≡ 0x01 → r ≡ Evaluated.Value (constant_in s (at + 1)) (at + 1 + 4) → r ≡ answer (expr_at left v s at) at env
+  pub const_answer : (env : List Word) (r : Result (ℤ × ℕ) Flaw) → get_or s at 0 ≡ 0x01 → r ≡ Ok (constant_in s (at + 1), at + 1 + 4) → r ≡ answer (expr_at left v s at) at env
   unfolding answer eval
   const_answer env r e q = let w = expr_const e in rw (w.1, w.2) q
 
@@ -220,7 +218,7 @@ module _ (left v : ℕ) (s : List ℕ) (at : ℕ) (st : Readable (expr_at left v
   pub var_there : Sized v s → get_or s at 0 ≡ 0x02 → (at + 1 < 4064) × (get_or s (at + 1) 0 < 16)
   var_there h e = let w = expr_var e in (omega (arith, w.3), omega (arith, w.4))
 
-  pub var_answer : (env : List Word) (r : Evaluated) → get_or s at 0 ≡ 0x02 → r ≡ Evaluated.Value (get_or env (get_or s (at + 1) 0) (pos 0)) (at + 1 + 1) → r ≡ answer (expr_at left v s at) at env
+  pub var_answer : (env : List Word) (r : Result (ℤ × ℕ) Flaw) → get_or s at 0 ≡ 0x02 → r ≡ Ok (get_or env (get_or s (at + 1) 0) (pos 0), at + 1 + 1) → r ≡ answer (expr_at left v s at) at env
   unfolding answer eval
   var_answer env r e q = let w = expr_var e in rw (w.1, w.2, value-at env (get_or s (at + 1) 0)) q
 
@@ -228,11 +226,11 @@ module _ (left v : ℕ) (s : List ℕ) (at : ℕ) (st : Readable (expr_at left v
   pub neg_stands : get_or s at 0 ≡ 0x03 → Readable (expr_at (left - 1) v s (at + 1))
   neg_stands e = then-first (expr_at (left - 1) v s (at + 1)) _ (subst (λ (g : Got Expr). Readable g) (expr_as 0x03 e) st)
 
-  pub neg_value : (env : List Word) (x : ℤ) (n : ℕ) (r : Evaluated) → get_or s at 0 ≡ 0x03 → answer (expr_at (left - 1) v s (at + 1)) (at + 1) env ≡ Evaluated.Value x n → r ≡ value_at (handed_up (at_byte at) (negation x)) n → r ≡ answer (expr_at left v s at) at env
+  pub neg_value : (env : List Word) (x : ℤ) (n : ℕ) (r : Result (ℤ × ℕ) Flaw) → get_or s at 0 ≡ 0x03 → answer (expr_at (left - 1) v s (at + 1)) (at + 1) env ≡ Ok (x, n) → r ≡ value_at (handed_up (at_byte at) (negation x)) n → r ≡ answer (expr_at left v s at) at env
   unfolding answer eval
   neg_value env x n r e h q = let w = value-is env (at + 1) (expr_at (left - 1) v s (at + 1)) x n h in rw (expr_as 0x03 e, w.1, w.2) q
 
-  pub neg_fault : (env : List Word) (k : Flaw) → get_or s at 0 ≡ 0x03 → answer (expr_at (left - 1) v s (at + 1)) (at + 1) env ≡ Evaluated.Fault k → Evaluated.Fault k ≡ answer (expr_at left v s at) at env
+  pub neg_fault : (env : List Word) (k : Flaw) → get_or s at 0 ≡ 0x03 → answer (expr_at (left - 1) v s (at + 1)) (at + 1) env ≡ Err k → Err k ≡ answer (expr_at left v s at) at env
   unfolding answer eval
   neg_fault env k e h = let w = fault-is env (at + 1) (expr_at (left - 1) v s (at + 1)) k (neg_stands e) h in rw (expr_as 0x03 e, w.2, w.3)
 
@@ -240,7 +238,7 @@ module _ (left v : ℕ) (s : List ℕ) (at : ℕ) (st : Readable (expr_at left v
   pub case_stands : get_or s at 0 ≡ 0x09 → Readable (case_from (expr_at (left - 1) v s) (cond_at (left - 1) v s) (at + 1))
   case_stands e = subst (λ (g : Got Expr). Readable g) (expr_as 0x09 e) st
 
-  pub case_answer : (env : List Word) (r : Evaluated) → get_or s at 0 ≡ 0x09 → r ≡ answer (case_from (expr_at (left - 1) v s) (cond_at (left - 1) v s) (at + 1)) at env → r ≡ answer (expr_at left v s at) at env
+  pub case_answer : (env : List Word) (r : Result (ℤ × ℕ) Flaw) → get_or s at 0 ≡ 0x09 → r ≡ answer (case_from (expr_at (left - 1) v s) (cond_at (left - 1) v s) (at + 1)) at env → r ≡ answer (expr_at left v s at) at env
   case_answer env r e q = rw (expr_as 0x09 e) q
 
   -- an operator: no other tag is left
@@ -265,14 +263,14 @@ module _ (left v : ℕ) (s : List ℕ) (at : ℕ) (st : Readable (expr_at left v
     pub op-stands : Readable (pairs (expr_at (left - 1) v s) (at + 1))
     op-stands = two-pairs (Op (operator_of (get_or s at 0))) (expr_at (left - 1) v s) (at + 1) (subst (λ (g : Got Expr). Readable g) expr-op st)
 
-    pub op-values : (env : List Word) (x y : ℤ) (n : ℕ) (r : Evaluated) → answers (pairs (expr_at (left - 1) v s) (at + 1)) (at + 1) env ≡ Both.Values x y n → r ≡ value_at (handed_up (at_byte at) (applied (operator_of (get_or s at 0)) x y)) n → r ≡ answer (expr_at left v s at) at env
+    pub op-values : (env : List Word) (x y : ℤ) (n : ℕ) (r : Result (ℤ × ℕ) Flaw) → answers (pairs (expr_at (left - 1) v s) (at + 1)) (at + 1) env ≡ Ok (x, y, n) → r ≡ value_at (handed_up (at_byte at) (applied (operator_of (get_or s at 0)) x y)) n → r ≡ answer (expr_at left v s at) at env
     unfolding answer eval
     op-values env x y n r h e =
         let g₁ = values_are env (at + 1) (pairs (expr_at (left - 1) v s) (at + 1)) x y n h in
         let along : at + (1 + expr_size g₁.0.0) ≡ at + 1 + expr_size g₁.0.0 = omega arith in
         rw (expr-op, two-map (Op (operator_of (get_or s at 0))) (expr_at (left - 1) v s) (at + 1), g₁.1, along, g₁.2, g₁.3) e
 
-    pub op-fault : (env : List Word) (k : Flaw) → answers (pairs (expr_at (left - 1) v s) (at + 1)) (at + 1) env ≡ Both.Fault k → Evaluated.Fault k ≡ answer (expr_at left v s at) at env
+    pub op-fault : (env : List Word) (k : Flaw) → answers (pairs (expr_at (left - 1) v s) (at + 1)) (at + 1) env ≡ Err k → Err k ≡ answer (expr_at left v s at) at env
     unfolding answer eval
     op-fault env k h =
         let g₁ = both_fault_is env (at + 1) (operated (at_byte at) (operator_of (get_or s at 0))) (pairs (expr_at (left - 1) v s) (at + 1)) k op-stands h in
@@ -305,14 +303,14 @@ module _ (left v : ℕ) (s : List ℕ) (at : ℕ) (st : Readable (cond_at left v
     pub compare-stands : Readable (pairs (expr_at (left - 1) v s) (at + 1))
     compare-stands = two-pairs (Compare (relation_of (get_or s at 0))) (expr_at (left - 1) v s) (at + 1) (subst (λ (g : Got Cond). Readable g) cond-compare st)
 
-    pub compare-values : (env : List Word) (x y : ℤ) (n : ℕ) (h : Bool) → answers (pairs (expr_at (left - 1) v s) (at + 1)) (at + 1) env ≡ Both.Values x y n → h ≡ compared (relation_of (get_or s at 0)) x y → Verdict.Holds h n ≡ holding (cond_at left v s at) at env
+    pub compare-values : (env : List Word) (x y : ℤ) (n : ℕ) (h : Bool) → answers (pairs (expr_at (left - 1) v s) (at + 1)) (at + 1) env ≡ Ok (x, y, n) → h ≡ compared (relation_of (get_or s at 0)) x y → Ok (h, n) ≡ holding (cond_at left v s at) at env
     unfolding holding holds
     compare-values env x y n h e q =
         let g₁ = values_are env (at + 1) (pairs (expr_at (left - 1) v s) (at + 1)) x y n e in
         let along : at + (1 + expr_size g₁.0.0) ≡ at + 1 + expr_size g₁.0.0 = omega arith in
         rw (q, cond-compare, two-map (Compare (relation_of (get_or s at 0))) (expr_at (left - 1) v s) (at + 1), g₁.1, along, g₁.2, g₁.3)
 
-    pub compare-fault : (env : List Word) (k : Flaw) → answers (pairs (expr_at (left - 1) v s) (at + 1)) (at + 1) env ≡ Both.Fault k → Verdict.Fault k ≡ holding (cond_at left v s at) at env
+    pub compare-fault : (env : List Word) (k : Flaw) → answers (pairs (expr_at (left - 1) v s) (at + 1)) (at + 1) env ≡ Err k → Err k ≡ holding (cond_at left v s at) at env
     unfolding holding holds
     compare-fault env k h =
         let g₁ = both_fault_is env (at + 1) (λ x y. value (related (relation_of (get_or s at 0)) x y)) (pairs (expr_at (left - 1) v s) (at + 1)) k compare-stands h in
@@ -326,11 +324,11 @@ module _ (left v : ℕ) (s : List ℕ) (at : ℕ) (st : Readable (cond_at left v
   pub not-stands : get_or s at 0 ≡ 0x12 → Readable (cond_at (left - 1) v s (at + 1))
   not-stands e = then-first (cond_at (left - 1) v s (at + 1)) _ (subst (λ (g : Got Cond). Readable g) (cond-not e) st)
 
-  pub not-holds : (env : List Word) (h : Bool) (n : ℕ) → get_or s at 0 ≡ 0x12 → holding (cond_at (left - 1) v s (at + 1)) (at + 1) env ≡ Verdict.Holds h n → Verdict.Holds (not h) n ≡ holding (cond_at left v s at) at env
+  pub not-holds : (env : List Word) (h : Bool) (n : ℕ) → get_or s at 0 ≡ 0x12 → holding (cond_at (left - 1) v s (at + 1)) (at + 1) env ≡ Ok (h, n) → Ok (not h, n) ≡ holding (cond_at left v s at) at env
   unfolding holding holds
   not-holds env h n e q = let w = holds-is env (at + 1) (cond_at (left - 1) v s (at + 1)) h n q in rw (cond-not e, w.1, w.2)
 
-  pub not-fault : (env : List Word) (k : Flaw) → get_or s at 0 ≡ 0x12 → holding (cond_at (left - 1) v s (at + 1)) (at + 1) env ≡ Verdict.Fault k → Verdict.Fault k ≡ holding (cond_at left v s at) at env
+  pub not-fault : (env : List Word) (k : Flaw) → get_or s at 0 ≡ 0x12 → holding (cond_at (left - 1) v s (at + 1)) (at + 1) env ≡ Err k → Err k ≡ holding (cond_at left v s at) at env
   unfolding holding holds
   not-fault env k e q = let w = held_fault_is env (at + 1) (cond_at (left - 1) v s (at + 1)) k (not-stands e) q in rw (cond-not e, w.2, w.3)
 

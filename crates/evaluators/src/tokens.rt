@@ -4,7 +4,6 @@ ghost use Rattle.definitions.specs.Grammar.{longest};
 ghost use Rattle.evaluators.specs.Skip.{token_of, past};
 
 use crate::Rule;
-use definitions::LONGEST;
 
 // How many bytes a token has, its tag among them.
 fn bytes_of(tag: u8) -> usize
@@ -36,13 +35,9 @@ pub fn skip(s: &Rule, at: usize) -> usize
 {
     let mut due: usize = 1;
     let mut i = at;
-    while 0 < due {
-        if LONGEST <= i {
-            return i;
-        }
+    while due > 0 && i < s.len() {
         let tag = s[i];
-        due -= 1;
-        due += items_of(tag);
+        due = due - 1 + items_of(tag);
         i += bytes_of(tag);
     }
     i

@@ -17,7 +17,7 @@ use Rattle.definitions.specs.declared.Flaw.{Flaw}
 use Rattle.evaluators.specs.Skip.{past}
 use Rattle.evaluators.specs.Answer.{Readable, holding}
 use Rattle.rounds.specs.Run.{EndHere, leading_of}
-use Rattle.evaluators.specs.declared.Verdict.{Verdict}
+use Rattle.std.specs.Prelude.{Ok, Err}
 use Rattle.rounds.specs.declared.blocks.Leading.{Leading}
 use Rattle.evaluators.proofs.Tags.{end-bad}
 use Rattle.evaluators.proofs.Reading.{no_got, then-got, one-got, two-got, byte-got, target_got}
@@ -112,7 +112,7 @@ module _ (left v : ℕ) (s : List ℕ) (at : ℕ) (h : EndHere left v s at) wher
     pub if-stands : Readable (cond_at depth v s (at + 1))
     if-stands = is-got (cond_at depth v s (at + 1)) parts.test parts.m parts.test-reads
 
-    pub if-fault : (env : List Word) (f : Flaw) → holding (cond_at depth v s (at + 1)) (at + 1) env ≡ Verdict.Fault f → Leading.Fault f ≡ leading_of (exit h.ending (at_byte at) (values_in env))
+    pub if-fault : (env : List Word) (f : Flaw) → holding (cond_at depth v s (at + 1)) (at + 1) env ≡ Err f → Leading.Fault f ≡ leading_of (exit h.ending (at_byte at) (values_in env))
     unfolding exit
     if-fault env f e =
         let w = held_fault_is env (at + 1) (cond_at depth v s (at + 1)) f if-stands e in
@@ -121,7 +121,7 @@ module _ (left v : ℕ) (s : List ℕ) (at : ℕ) (h : EndHere left v s at) wher
         rw (parts.is, ← same, w.3)
 
     -- which ending is taken, and where it stands
-    module _ (env : List Word) (b : Bool) (n : ℕ) (e : holding (cond_at depth v s (at + 1)) (at + 1) env ≡ Verdict.Holds b n) where
+    module _ (env : List Word) (b : Bool) (n : ℕ) (e : holding (cond_at depth v s (at + 1)) (at + 1) env ≡ Ok (b, n)) where
       held : (parts.m ≡ n) × (holds parts.test (at_byte (at + 1)) (values_in env) ≡ value b)
       held =
           let w = holds-is env (at + 1) (cond_at depth v s (at + 1)) b n e in

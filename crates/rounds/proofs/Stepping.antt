@@ -23,7 +23,7 @@ use Rattle.definitions.proofs.Values.{values_length, values-set, values-append}
 use Rattle.readers.specs.Readings.{stmt_body, stmt_at}
 use Rattle.evaluators.specs.Answer.{Readable, answer}
 use Rattle.rounds.specs.Run.{StmtHere, labels_in, StmtRun, BlockHere, BodyRun}
-use Rattle.evaluators.specs.declared.Evaluated.{Evaluated}
+use Rattle.std.specs.Prelude.{Ok, Err}
 use Rattle.rounds.specs.declared.blocks.Body.{Body}
 use Rattle.evaluators.proofs.Reading.{no_got, then-got, one-got, byte-got, variable_got}
 use Rattle.evaluators.proofs.Skipping.{past-grows, past_one, expr_past}
@@ -91,7 +91,7 @@ module _ (v : ℕ) (s : List ℕ) (at : ℕ) (h : StmtHere v s at) where
 
 -- what the evaluator's answer says of the expression that stands there
 module _ {p : Got Expr} {e : Expr} {n : ℕ} (reads : p ≡ got e n) (at : ℕ) (env : List Word) where
-  valued : (z : ℤ) (m : ℕ) → answer p at env ≡ Evaluated.Value z m → (n ≡ m) × (eval e (at_byte at) (values_in env) ≡ value (number z))
+  valued : (z : ℤ) (m : ℕ) → answer p at env ≡ Ok (z, m) → (n ≡ m) × (eval e (at_byte at) (values_in env) ≡ value (number z))
   valued z m a =
       let u = value-is env at p z m a in
       let both = sym reads ∙ u.1 in
@@ -99,7 +99,7 @@ module _ {p : Got Expr} {e : Expr} {n : ℕ} (reads : p ≡ got e n) (at : ℕ) 
       let expr : e ≡ u.0 = cc in
       (same, rw expr u.2)
 
-  faulty : (k : Flaw) → answer p at env ≡ Evaluated.Fault k → eval e (at_byte at) (values_in env) ≡ fault k
+  faulty : (k : Flaw) → answer p at env ≡ Err k → eval e (at_byte at) (values_in env) ≡ fault k
   faulty k a =
       let u = fault-is env at p k (is-got p e n reads) a in
       let both = sym reads ∙ u.2 in
@@ -112,7 +112,7 @@ module _ {v : ℕ} {s : List ℕ} {at : ℕ} (h : StmtHere v s at) {q count : �
   ends how e = record { way = sym e; place = λ p k r. let z : ◌≡◌ {A = ℕ} 0 1 = cc in absurd (omega arith); grows = omega arith; within = few; rest = refl }
 
   -- ---- a set
-  pub set_on : (z : ℤ) (m : ℕ) → get_or s at 0 ≡ 0x20 → answer (expr_at depth v s (at + 2)) (at + 2) vars ≡ Evaluated.Value z m → StmtRun h.what at h.next q count vars labels (Body.Ready m count) (set vars (get_or s (at + 1) 0) z) labels
+  pub set_on : (z : ℤ) (m : ℕ) → get_or s at 0 ≡ 0x20 → answer (expr_at depth v s (at + 2)) (at + 2) vars ≡ Ok (z, m) → StmtRun h.what at h.next q count vars labels (Body.Ready m count) (set vars (get_or s (at + 1) 0) z) labels
   unfolding step
   set_on z m e a =
       let w = set_here v s at h e in
@@ -120,12 +120,12 @@ module _ {v : ℕ} {s : List ℕ} {at : ℕ} (h : StmtHere v s at) {q count : �
       let same = u.0 in
       record { way = rw (w.is, u.1, values-set vars (get_or s (at + 1) 0) z); place = λ p k r. cc; grows = omega arith; within = few; rest = refl }
 
-  pub set-fault : (k : Flaw) (how : Finish) → get_or s at 0 ≡ 0x20 → answer (expr_at depth v s (at + 2)) (at + 2) vars ≡ Evaluated.Fault k → how ≡ faulted k → StmtRun h.what at h.next q count vars labels (Body.Ended how count) vars labels
+  pub set-fault : (k : Flaw) (how : Finish) → get_or s at 0 ≡ 0x20 → answer (expr_at depth v s (at + 2)) (at + 2) vars ≡ Err k → how ≡ faulted k → StmtRun h.what at h.next q count vars labels (Body.Ended how count) vars labels
   unfolding step
   set-fault k how e a f = let w = set_here v s at h e in rw f (ends (faulted k) (rw (w.is, faulty w.reads (at + 2) vars k a)))
 
   -- ---- an emit
-  pub emit_on : (z : ℤ) (m : ℕ) → (get_or s at 0 ≡ 0x20 → ⊥) → answer (expr_at depth v s (at + 1)) (at + 1) vars ≡ Evaluated.Value z m → count < q → q ≤ length labels → StmtRun h.what at h.next q count vars labels (Body.Ready m (count + 1)) vars (set labels count z)
+  pub emit_on : (z : ℤ) (m : ℕ) → (get_or s at 0 ≡ 0x20 → ⊥) → answer (expr_at depth v s (at + 1)) (at + 1) vars ≡ Ok (z, m) → count < q → q ≤ length labels → StmtRun h.what at h.next q count vars labels (Body.Ready m (count + 1)) vars (set labels count z)
   unfolding step
   emit_on z m f a l room =
       let w = emit_here v s at h f in
@@ -135,7 +135,7 @@ module _ {v : ℕ} {s : List ℕ} {at : ℕ} (h : StmtHere v s at) {q count : �
       let size : length (labels_in count labels) ≡ count = values_length (take count labels) ∙ length-take-le count labels (omega arith) in
       record { way = rw (w.is, u.1, size, lt-ltb count q l, more); place = λ p k r. cc; grows = omega arith; within = omega arith; rest = drop-set-lt (count + 1) labels count z (omega arith) }
 
-  pub emit_full : (z : ℤ) (m : ℕ) → (get_or s at 0 ≡ 0x20 → ⊥) → answer (expr_at depth v s (at + 1)) (at + 1) vars ≡ Evaluated.Value z m → q ≤ count → q ≤ length labels → StmtRun h.what at h.next q count vars labels (Body.Ended quota_full count) vars labels
+  pub emit_full : (z : ℤ) (m : ℕ) → (get_or s at 0 ≡ 0x20 → ⊥) → answer (expr_at depth v s (at + 1)) (at + 1) vars ≡ Ok (z, m) → q ≤ count → q ≤ length labels → StmtRun h.what at h.next q count vars labels (Body.Ended quota_full count) vars labels
   unfolding step
   emit_full z m f a l room =
       let w = emit_here v s at h f in
@@ -143,7 +143,7 @@ module _ {v : ℕ} {s : List ℕ} {at : ℕ} (h : StmtHere v s at) {q count : �
       let size : length (labels_in count labels) ≡ count = values_length (take count labels) ∙ length-take-le count labels (omega arith) in
       ends quota_full (rw (w.is, u.1, size, le-ltb count q l))
 
-  pub emit_fault : (k : Flaw) (how : Finish) → (get_or s at 0 ≡ 0x20 → ⊥) → answer (expr_at depth v s (at + 1)) (at + 1) vars ≡ Evaluated.Fault k → how ≡ faulted k → StmtRun h.what at h.next q count vars labels (Body.Ended how count) vars labels
+  pub emit_fault : (k : Flaw) (how : Finish) → (get_or s at 0 ≡ 0x20 → ⊥) → answer (expr_at depth v s (at + 1)) (at + 1) vars ≡ Err k → how ≡ faulted k → StmtRun h.what at h.next q count vars labels (Body.Ended how count) vars labels
   unfolding step
   emit_fault k how g a f = let w = emit_here v s at h g in rw f (ends (faulted k) (rw (w.is, faulty w.reads (at + 1) vars k a)))
 

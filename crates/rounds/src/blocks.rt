@@ -10,7 +10,7 @@ ghost use Rattle.rounds.specs.Run.{EndHere, leading_of, StmtHere, StmtRun, Block
 
 use definitions::{DEPTH, Finish, Flaw, LEVELS, faulted, quota_full, stopped};
 use evaluators::tokens::skip;
-use evaluators::{Evaluated, Rule, Vars, Verdict, eval_cond, eval_expr};
+use evaluators::{Rule, Vars, eval_cond, eval_expr};
 
 // ---- endings
 
@@ -42,8 +42,8 @@ pub fn run_end(s: &Rule, at: usize, v: u8, left: u8, vars: &Vars) -> Leading
         0x32 => Leading::Stop,
         // 33: nothing else can stand here
         _ => match eval_cond(s, next, v, DEPTH, vars) {
-            Verdict::Fault(k) => Leading::Fault(k),
-            Verdict::Holds(h, n) => {
+            Err(k) => Leading::Fault(k),
+            Ok((h, n)) => {
                 if h {
                     run_end(s, n, v, less, vars)
                 } else {
@@ -84,8 +84,8 @@ fn step(
         let x = s[next] as usize;
         let place = at + 2;
         match eval_expr(s, place, v, DEPTH, vars) {
-            Evaluated::Fault(k) => Body::Ended(faulted(k), count),
-            Evaluated::Value(z, end) => {
+            Err(k) => Body::Ended(faulted(k), count),
+            Ok((z, end)) => {
                 vars[x] = z;
                 Body::Ready(end, count)
             }
@@ -93,8 +93,8 @@ fn step(
     } else {
         // 21: nothing else can stand here
         match eval_expr(s, next, v, DEPTH, vars) {
-            Evaluated::Fault(k) => Body::Ended(faulted(k), count),
-            Evaluated::Value(z, end) => {
+            Err(k) => Body::Ended(faulted(k), count),
+            Ok((z, end)) => {
                 if quota <= count {
                     return Body::Ended(quota_full(), count);
                 }

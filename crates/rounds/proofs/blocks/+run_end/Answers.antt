@@ -41,7 +41,7 @@ run_end-requires t c =
       omega (arith, (end_there a.left a.v a.s.now a.at c.requires).1),
       (
         c.requires.0,
-        laws.if-first a.left a.v a.s.now a.at c.requires.1 (branch t (goal.at.run_end-requires t c).In_default) a.vars.now _ _ (told c.eval_cond.ensures c.in-Holds.is),
+        laws.if-first a.left a.v a.s.now a.at c.requires.1 (branch t (goal.at.run_end-requires t c).In_default) a.vars.now _ _ (told c.eval_cond.ensures c.in-Ok.is),
       ),
     )
 
@@ -52,7 +52,7 @@ run_end-requires-else-h t c =
       (
         c.requires.0,
         rw c.skip-place.ensures
-            (laws.if-second a.left a.v a.s.now a.at c.requires.1 (branch t (goal.at.run_end-requires-else-h t c).In_default) a.vars.now _ _ (told c.eval_cond.ensures c.in-Holds.is)),
+            (laws.if-second a.left a.v a.s.now a.at c.requires.1 (branch t (goal.at.run_end-requires-else-h t c).In_default) a.vars.now _ _ (told c.eval_cond.ensures c.in-Ok.is)),
       ),
     )
 
@@ -65,17 +65,17 @@ returns-in-49 t c h = let a = c.args in laws.jump_answer a.left a.v a.s.now a.at
 pub returns-in-50 : goal.returns-in-50
 returns-in-50 t c h = let a = c.args in laws.stop_answer a.left a.v a.s.now a.at h a.vars.now c.in-50.is
 
-pub returns-in-Fault : goal.returns-in-Fault
-returns-in-Fault t c h =
+pub returns-in-Err : goal.returns-in-Err
+returns-in-Err t c h =
     let a = c.args in
-    laws.if-fault a.left a.v a.s.now a.at h (branch t (goal.at.returns-in-Fault t c).In_default) a.vars.now _ (told c.eval_cond.ensures c.in-Fault.is)
+    laws.if-fault a.left a.v a.s.now a.at h (branch t (goal.at.returns-in-Err t c).In_default) a.vars.now _ (told c.eval_cond.ensures c.in-Err.is)
 
 pub returns-then-h : goal.returns-then-h
 returns-then-h t c h =
     let a = c.args in
-    laws.if-true a.left a.v a.s.now a.at h (branch t (goal.at.returns-then-h t c).In_default) a.vars.now _ _ (told c.eval_cond.ensures c.in-Holds.is) _ c.if-h.true c.run_end.ensures
+    laws.if-true a.left a.v a.s.now a.at h (branch t (goal.at.returns-then-h t c).In_default) a.vars.now _ _ (told c.eval_cond.ensures c.in-Ok.is) _ c.if-h.true c.run_end.ensures
 
 pub returns-else-h : goal.returns-else-h
 returns-else-h t c h =
     let a = c.args in
-    laws.if-false a.left a.v a.s.now a.at h (branch t (goal.at.returns-else-h t c).In_default) a.vars.now _ _ (told c.eval_cond.ensures c.in-Holds.is) _ c.if-h.false (rw c.skip-place.ensures at c.run_end-else-h.ensures)
+    laws.if-false a.left a.v a.s.now a.at h (branch t (goal.at.returns-else-h t c).In_default) a.vars.now _ _ (told c.eval_cond.ensures c.in-Ok.is) _ c.if-h.false (rw c.skip-place.ensures at c.run_end-else-h.ensures)

@@ -37,24 +37,24 @@ eval_expr-requires-else-tag-eq32 c = (c.requires.sized.0, laws.emit_readable _ _
 pub returns-then-quota-count : goal.returns-then-quota-count
 returns-then-quota-count c =
     λ h.
-    rw c.quota_full.ensures (laws.emit_full h c.requires.count_le_quota.0 _ _ c.if-tag-eq32.false (told c.eval_expr-else-tag-eq32.ensures c.in-Value-eval_expr.is) c.if-quota-count.true c.requires.count_le_quota.1)
+    rw c.quota_full.ensures (laws.emit_full h c.requires.count_le_quota.0 _ _ c.if-tag-eq32.false (told c.eval_expr-else-tag-eq32.ensures c.in-Ok-eval_expr.is) c.if-quota-count.true c.requires.count_le_quota.1)
 
-pub returns-in-Fault : goal.returns-in-Fault
-returns-in-Fault c =
+pub returns-in-Err : goal.returns-in-Err
+returns-in-Err c =
     λ h.
-    laws.set-fault h c.requires.count_le_quota.0 _ _ c.if-tag-eq32.true (told c.eval_expr.ensures c.in-Fault.is) c.faulted.ensures
+    laws.set-fault h c.requires.count_le_quota.0 _ _ c.if-tag-eq32.true (told c.eval_expr.ensures c.in-Err.is) c.faulted.ensures
 
-pub returns-in-Value : goal.returns-in-Value
-returns-in-Value c =
+pub returns-in-Ok : goal.returns-in-Ok
+returns-in-Ok c =
     λ h.
-    rw (bound c.in-Value.z (omega arith)) (laws.set_on h c.requires.count_le_quota.0 _ _ c.if-tag-eq32.true (told c.eval_expr.ensures c.in-Value.is))
+    rw (bound c.in-Ok.z (omega arith)) (laws.set_on h c.requires.count_le_quota.0 _ _ c.if-tag-eq32.true (told c.eval_expr.ensures c.in-Ok.is))
 
-pub returns-in-Fault-eval_expr : goal.returns-in-Fault-eval_expr
-returns-in-Fault-eval_expr c =
+pub returns-in-Err-eval_expr : goal.returns-in-Err-eval_expr
+returns-in-Err-eval_expr c =
     λ h.
-    laws.emit_fault h c.requires.count_le_quota.0 _ _ c.if-tag-eq32.false (told c.eval_expr-else-tag-eq32.ensures c.in-Fault-eval_expr.is) c.faulted-in-Fault-eval_expr.ensures
+    laws.emit_fault h c.requires.count_le_quota.0 _ _ c.if-tag-eq32.false (told c.eval_expr-else-tag-eq32.ensures c.in-Err-eval_expr.is) c.faulted-in-Err-eval_expr.ensures
 
 pub returns-else-quota-count : goal.returns-else-quota-count
 returns-else-quota-count c =
     λ h.
-    rw (bound c.in-Value-eval_expr.z (omega arith)) (laws.emit_on h c.requires.count_le_quota.0 _ _ c.if-tag-eq32.false (told c.eval_expr-else-tag-eq32.ensures c.in-Value-eval_expr.is) c.if-quota-count.false c.requires.count_le_quota.1)
+    rw (bound c.in-Ok-eval_expr.z (omega arith)) (laws.emit_on h c.requires.count_le_quota.0 _ _ c.if-tag-eq32.false (told c.eval_expr-else-tag-eq32.ensures c.in-Ok-eval_expr.is) c.if-quota-count.false c.requires.count_le_quota.1)

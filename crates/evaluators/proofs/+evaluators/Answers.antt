@@ -1,12 +1,12 @@
 -- The proof of the cycle of calls {eval_arm, eval_case, eval_cond, eval_expr, eval_join, eval_operand, eval_two}. Each return, and what each call
 -- requires, is a law of `Evaluating` at what the callees say.
-use Rattle.std.proofs.Common.{ℕ, ◌≤◌, ◌<◌, get_or, refl, List, arith}
+use Rattle.std.proofs.Common.{ℕ, ◌≤◌, ◌<◌, get_or, refl, ap, ◌∙◌, Ok, List, arith}
 use Rattle.definitions.specs.Grammar.{expr_at, cond_at}
 use Rattle.evaluators.specs.Answer.{Sized, Readable}
-use Rattle.evaluators.proofs.Answers.{told, bound}
+use Rattle.evaluators.proofs.Answers.{told, bound, passed}
 use Rattle.evaluators.proofs.Evaluating as laws
-use Rattle.evaluators.proofs.+eval_arm_eval_case_eval_cond_eval_expr_eval_join_eval_operand_eval_two.Goals as goal
-use Rattle.evaluators.proofs.+eval_arm_eval_case_eval_cond_eval_expr_eval_join_eval_operand_eval_two.Goals.{eval_expr-In_default, eval_cond-In_default, eval_cond-in_default-via-then-tag-lt16, eval_cond-in_default-via-else-tag-lt16+else-tag-lt18}
+use Rattle.evaluators.proofs.+evaluators.Goals as goal
+use Rattle.evaluators.proofs.+evaluators.Goals.{eval_expr-In_default, eval_cond-In_default, eval_cond-in_default-via-then-tag-lt16, eval_cond-in_default-via-else-tag-lt16+else-tag-lt18}
 
 -- ---- eval_arm
 pub eval_arm-eval_expr-requires : goal.eval_arm-eval_expr-requires
@@ -15,18 +15,18 @@ eval_arm-eval_expr-requires t c = (omega arith, (c.requires.0, laws.then-first _
 pub eval_arm-eval_expr-requires-else-first : goal.eval_arm-eval_expr-requires-else-first
 eval_arm-eval_expr-requires-else-first t c =
     let a = c.args in
-    (omega arith, (c.requires.0, rw c.skip-place.ensures (laws.arm_second a.left a.v a.s.now a.at a.vars.now c.requires.1)))
+    (omega arith, (c.requires.0, rw c.skip-else-first.ensures (laws.arm_second a.left a.v a.s.now a.at a.vars.now c.requires.1)))
 
-pub eval_arm-returns-in-Fault : goal.eval_arm-returns-in-Fault
-eval_arm-returns-in-Fault t c = rw c.if-first.true (laws.arm_fault _ _ _ _ _ c.requires.1 _ (told c.eval_expr.ensures c.in-Fault.is))
+pub eval_arm-returns-in_err-x : goal.eval_arm-returns-in_err-x
+eval_arm-returns-in_err-x t c = rw c.if-first.true (passed _ _ c.from_residual.ensures.1 ∙ laws.arm_fault _ _ _ _ _ c.requires.1 _ (told c.eval_expr.ensures c.in_err-x.was))
 
-pub eval_arm-returns-in-Value : goal.eval_arm-returns-in-Value
-eval_arm-returns-in-Value t c =
-    rw (c.if-first.true, c.skip-end.ensures, bound c.in-Value.x (omega arith))
-    (laws.arm_true _ _ _ _ _ c.requires.1 _ _ (told c.eval_expr.ensures c.in-Value.is))
+pub eval_arm-returns-in_ok-x : goal.eval_arm-returns-in_ok-x
+eval_arm-returns-in_ok-x t c =
+    rw (c.if-first.true, c.skip.ensures, bound c.in_ok-x.x (omega arith))
+    (laws.arm_true _ _ _ _ _ c.requires.1 _ _ (told c.eval_expr.ensures c.in_ok-x.was))
 
 pub eval_arm-returns-else-first : goal.eval_arm-returns-else-first
-eval_arm-returns-else-first t c = rw c.if-first.false (laws.arm_false _ _ _ _ _ c.requires.1 _ (rw c.skip-place.ensures at c.eval_expr-else-first.ensures))
+eval_arm-returns-else-first t c = rw c.if-first.false (laws.arm_false _ _ _ _ _ c.requires.1 _ (rw c.skip-else-first.ensures at c.eval_expr-else-first.ensures))
 
 -- ---- eval_case
 pub eval_case-eval_cond-requires : goal.eval_case-eval_cond-requires
@@ -35,13 +35,13 @@ eval_case-eval_cond-requires t c = (omega arith, (c.requires.0, laws.then-first 
 pub eval_case-eval_arm-requires : goal.eval_case-eval_arm-requires
 eval_case-eval_arm-requires t c =
     let a = c.args in
-    (omega arith, (c.requires.0, laws.case_next a.left a.v a.s.now a.at a.vars.now c.requires.1 _ _ (told c.eval_cond.ensures c.in-Holds.is)))
+    (omega arith, (c.requires.0, laws.case_next a.left a.v a.s.now a.at a.vars.now c.requires.1 _ _ (told c.eval_cond.ensures c.in_ok-h.was)))
 
-pub eval_case-returns-in-Fault : goal.eval_case-returns-in-Fault
-eval_case-returns-in-Fault t c p i = laws.case_fault _ _ _ _ _ c.requires.1 _ p i (told c.eval_cond.ensures c.in-Fault.is)
+pub eval_case-returns-in_err-h : goal.eval_case-returns-in_err-h
+eval_case-returns-in_err-h t c p i = passed _ _ c.from_residual.ensures.1 ∙ laws.case_fault _ _ _ _ _ c.requires.1 _ p i (told c.eval_cond.ensures c.in_err-h.was)
 
-pub eval_case-returns-in-Holds : goal.eval_case-returns-in-Holds
-eval_case-returns-in-Holds t c p i = laws.case_value _ _ _ _ _ c.requires.1 _ _ _ p i (told c.eval_cond.ensures c.in-Holds.is) c.eval_arm.ensures
+pub eval_case-returns : goal.eval_case-returns
+eval_case-returns t c p i = laws.case_value _ _ _ _ _ c.requires.1 _ _ _ p i (told c.eval_cond.ensures c.in_ok-h.was) c.eval_arm.ensures
 
 -- ---- eval_cond
 -- a tag stands there, and a level is left
@@ -81,25 +81,26 @@ eval_cond-eval_join-requires t c =
     let j = joint t c in
     (omega (arith, (cond_there a.left a.v a.s.now a.at c.requires).1), ((c.requires.0, laws.join_stands a.left a.v a.s.now a.at c.requires.1 j.0 j.1), j))
 
-pub eval_cond-returns-in-Holds : goal.eval_cond-returns-in-Holds
-eval_cond-returns-in-Holds t c =
+pub eval_cond-returns-in_ok-h-in-18 : goal.eval_cond-returns-in_ok-h-in-18
+eval_cond-returns-in_ok-h-in-18 t c =
     let a = c.args in
-    laws.not-holds a.left a.v a.s.now a.at c.requires.1 _ _ _ c.in-18.is (told c.eval_cond.ensures c.in-Holds.is)
+    laws.not-holds a.left a.v a.s.now a.at c.requires.1 _ _ _ c.in-18.is (told c.eval_cond.ensures c.in_ok-h-in-18.was)
 
-pub eval_cond-returns-in-Fault : goal.eval_cond-returns-in-Fault
-eval_cond-returns-in-Fault t c =
+pub eval_cond-returns-in_err-h-in-18 : goal.eval_cond-returns-in_err-h-in-18
+eval_cond-returns-in_err-h-in-18 t c =
     let a = c.args in
-    laws.not-fault a.left a.v a.s.now a.at c.requires.1 _ _ c.in-18.is (told c.eval_cond.ensures c.in-Fault.is)
+    passed _ _ c.from_residual.ensures.1 ∙ laws.not-fault a.left a.v a.s.now a.at c.requires.1 _ _ c.in-18.is (told c.eval_cond.ensures c.in_err-h-in-18.was)
 
-pub eval_cond-returns-in-Values : goal.eval_cond-returns-in-Values
-eval_cond-returns-in-Values t c =
+pub eval_cond-returns-in_ok-x-in-16 : goal.eval_cond-returns-in_ok-x-in-16
+eval_cond-returns-in_ok-x-in-16 t c =
     let a = c.args in
-    laws.compare-values a.left a.v a.s.now a.at c.requires.1 (omega arith) (omega arith) _ _ _ _ _ (told c.eval_two.ensures c.in-Values.is) (rw (bound c.in-Values.x (omega arith), bound c.in-Values.y (omega arith)) at c.compare-h.ensures)
+    let r = c.in_ok-x-in-16 in
+    laws.compare-values a.left a.v a.s.now a.at c.requires.1 (omega arith) (omega arith) _ _ _ _ _ (told c.eval_two.ensures r.was) (rw (bound r.x (omega arith), bound r.y (omega arith)) at c.compare.ensures)
 
-pub eval_cond-returns-in-Fault-eval_two : goal.eval_cond-returns-in-Fault-eval_two
-eval_cond-returns-in-Fault-eval_two t c =
+pub eval_cond-returns-in_err-x-in-16 : goal.eval_cond-returns-in_err-x-in-16
+eval_cond-returns-in_err-x-in-16 t c =
     let a = c.args in
-    laws.compare-fault a.left a.v a.s.now a.at c.requires.1 (omega arith) (omega arith) _ _ (told c.eval_two.ensures c.in-Fault-eval_two.is)
+    passed _ _ c.from_residual-in_err-x-in-16.ensures.1 ∙ laws.compare-fault a.left a.v a.s.now a.at c.requires.1 (omega arith) (omega arith) _ _ (told c.eval_two.ensures c.in_err-x-in-16.was)
 
 pub eval_cond-returns-in_default : goal.eval_cond-returns-in_default
 eval_cond-returns-in_default t c =
@@ -162,60 +163,62 @@ eval_expr-operate_at-requires t c = operator t (goal.at.eval_expr-operate_at-req
 pub eval_expr-returns-in-1 : goal.eval_expr-returns-in-1
 eval_expr-returns-in-1 t c =
     let a = c.args in
-    laws.const_answer a.left a.v a.s.now a.at c.requires.1 _ _ c.in-1.is c.eval_const.ensures
+    laws.const_answer a.left a.v a.s.now a.at c.requires.1 _ _ c.in-1.is (ap Ok c.eval_const.ensures)
 
 pub eval_expr-returns-in-2 : goal.eval_expr-returns-in-2
 eval_expr-returns-in-2 t c =
     let a = c.args in
-    laws.var_answer a.left a.v a.s.now a.at c.requires.1 _ _ c.in-2.is c.eval_var.ensures
+    laws.var_answer a.left a.v a.s.now a.at c.requires.1 _ _ c.in-2.is (ap Ok c.eval_var.ensures)
 
-pub eval_expr-returns-in-Value : goal.eval_expr-returns-in-Value
-eval_expr-returns-in-Value t c =
+pub eval_expr-returns-in_ok-x-in-3 : goal.eval_expr-returns-in_ok-x-in-3
+eval_expr-returns-in_ok-x-in-3 t c =
     let a = c.args in
-    laws.neg_value a.left a.v a.s.now a.at c.requires.1 _ _ _ _ c.in-3.is (told c.eval_expr.ensures c.in-Value.is) (rw (bound c.in-Value.x (omega arith)) at c.negate_at.ensures)
+    let r = c.in_ok-x-in-3 in
+    laws.neg_value a.left a.v a.s.now a.at c.requires.1 _ _ _ _ c.in-3.is (told c.eval_expr.ensures r.was) (rw (bound r.x (omega arith)) at c.negate_at.ensures)
 
-pub eval_expr-returns-in-Fault : goal.eval_expr-returns-in-Fault
-eval_expr-returns-in-Fault t c =
+pub eval_expr-returns-in_err-x-in-3 : goal.eval_expr-returns-in_err-x-in-3
+eval_expr-returns-in_err-x-in-3 t c =
     let a = c.args in
-    laws.neg_fault a.left a.v a.s.now a.at c.requires.1 _ _ c.in-3.is (told c.eval_expr.ensures c.in-Fault.is)
+    passed _ _ c.from_residual.ensures.1 ∙ laws.neg_fault a.left a.v a.s.now a.at c.requires.1 _ _ c.in-3.is (told c.eval_expr.ensures c.in_err-x-in-3.was)
 
 pub eval_expr-returns-in-9 : goal.eval_expr-returns-in-9
 eval_expr-returns-in-9 t c =
     let a = c.args in
     laws.case_answer a.left a.v a.s.now a.at c.requires.1 _ _ c.in-9.is (c.eval_case.ensures a.at refl)
 
-pub eval_expr-returns-in-Values : goal.eval_expr-returns-in-Values
-eval_expr-returns-in-Values t c =
+pub eval_expr-returns-in_ok-x-in_default : goal.eval_expr-returns-in_ok-x-in_default
+eval_expr-returns-in_ok-x-in_default t c =
     let a = c.args in
-    let o = operator t (goal.at.eval_expr-returns-in-Values t c).In_default in
-    laws.op-values a.left a.v a.s.now a.at c.requires.1 o.0 o.1 _ _ _ _ _ (told c.eval_two.ensures c.in-Values.is) (rw (bound c.in-Values.x (omega arith), bound c.in-Values.y (omega arith)) at c.operate_at.ensures)
+    let o = operator t (goal.at.eval_expr-returns-in_ok-x-in_default t c).In_default in
+    let r = c.in_ok-x-in_default in
+    laws.op-values a.left a.v a.s.now a.at c.requires.1 o.0 o.1 _ _ _ _ _ (told c.eval_two.ensures r.was) (rw (bound r.x (omega arith), bound r.y (omega arith)) at c.operate_at.ensures)
 
-pub eval_expr-returns-in-Fault-eval_two : goal.eval_expr-returns-in-Fault-eval_two
-eval_expr-returns-in-Fault-eval_two t c =
+pub eval_expr-returns-in_err-x-in_default : goal.eval_expr-returns-in_err-x-in_default
+eval_expr-returns-in_err-x-in_default t c =
     let a = c.args in
-    let o = operator t (goal.at.eval_expr-returns-in-Fault-eval_two t c).In_default in
-    laws.op-fault a.left a.v a.s.now a.at c.requires.1 o.0 o.1 _ _ (told c.eval_two.ensures c.in-Fault-eval_two.is)
+    let o = operator t (goal.at.eval_expr-returns-in_err-x-in_default t c).In_default in
+    passed _ _ c.from_residual-in_err-x-in_default.ensures.1 ∙ laws.op-fault a.left a.v a.s.now a.at c.requires.1 o.0 o.1 _ _ (told c.eval_two.ensures c.in_err-x-in_default.was)
 
 -- ---- eval_join
 pub eval_join-eval_cond-requires : goal.eval_join-eval_cond-requires
 eval_join-eval_cond-requires t c = (omega arith, (c.requires.sized.0, laws.then-first _ _ c.requires.sized.1))
 
-pub eval_join-eval_cond-requires-else-done : goal.eval_join-eval_cond-requires-else-done
-eval_join-eval_cond-requires-else-done t c =
+pub eval_join-eval_cond-requires-else-decides : goal.eval_join-eval_cond-requires-else-decides
+eval_join-eval_cond-requires-else-decides t c =
     let a = c.args in
-    (omega arith, (c.requires.sized.0, laws.join_next a.left a.v a.s.now a.at a.vars.now _ c.requires.sized.1 _ _ (told c.eval_cond.ensures c.in-Holds.is)))
+    (omega arith, (c.requires.sized.0, laws.join_next a.left a.v a.s.now a.at a.vars.now _ c.requires.sized.1 _ _ (told c.eval_cond.ensures c.in_ok-h.was)))
 
-pub eval_join-returns-in-Fault : goal.eval_join-returns-in-Fault
-eval_join-returns-in-Fault t c p i = laws.join_fault _ _ _ _ _ _ c.requires.sized.1 _ p i (told c.eval_cond.ensures c.in-Fault.is)
+pub eval_join-returns-in_err-h : goal.eval_join-returns-in_err-h
+eval_join-returns-in_err-h t c p i = passed _ _ c.from_residual.ensures.1 ∙ laws.join_fault _ _ _ _ _ _ c.requires.sized.1 _ p i (told c.eval_cond.ensures c.in_err-h.was)
 
-pub eval_join-returns-then-done : goal.eval_join-returns-then-done
-eval_join-returns-then-done t c p i =
-    rw c.skip-after.ensures
-    (laws.join_left _ _ _ _ _ _ c.requires.sized.1 _ _ p i (told c.eval_cond.ensures c.in-Holds.is) (told c.decides-done.ensures c.if-done.true))
+pub eval_join-returns-then-decides : goal.eval_join-returns-then-decides
+eval_join-returns-then-decides t c p i =
+    rw c.skip.ensures
+    (laws.join_left _ _ _ _ _ _ c.requires.sized.1 _ _ p i (told c.eval_cond.ensures c.in_ok-h.was) (told c.decides.ensures c.if-decides.true))
 
-pub eval_join-returns-else-done : goal.eval_join-returns-else-done
-eval_join-returns-else-done t c p i =
-    laws.join_right _ _ _ _ _ _ c.requires.sized.1 _ _ _ p i (told c.eval_cond.ensures c.in-Holds.is) (told c.decides-done.ensures c.if-done.false) c.eval_cond-else-done.ensures
+pub eval_join-returns-else-decides : goal.eval_join-returns-else-decides
+eval_join-returns-else-decides t c p i =
+    laws.join_right _ _ _ _ _ _ c.requires.sized.1 _ _ _ p i (told c.eval_cond.ensures c.in_ok-h.was) (told c.decides.ensures c.if-decides.false) c.eval_cond-else-decides.ensures
 
 -- ---- eval_operand
 pub eval_operand-bounds-s-at : goal.eval_operand-bounds-s-at
@@ -237,30 +240,30 @@ eval_operand-eval_var-requires t c =
 pub eval_operand-returns-in-1 : goal.eval_operand-returns-in-1
 eval_operand-returns-in-1 t c =
     let a = c.args in
-    laws.const_answer a.left a.v a.s.now a.at c.requires.1 _ _ c.in-1.is c.eval_const.ensures
+    laws.const_answer a.left a.v a.s.now a.at c.requires.1 _ _ c.in-1.is (ap Ok c.eval_const.ensures)
 
 pub eval_operand-returns-in-2 : goal.eval_operand-returns-in-2
 eval_operand-returns-in-2 t c =
     let a = c.args in
-    laws.var_answer a.left a.v a.s.now a.at c.requires.1 _ _ c.in-2.is c.eval_var.ensures
+    laws.var_answer a.left a.v a.s.now a.at c.requires.1 _ _ c.in-2.is (ap Ok c.eval_var.ensures)
 
 -- ---- eval_two
 pub eval_two-eval_operand-requires : goal.eval_two-eval_operand-requires
 eval_two-eval_operand-requires t c = (omega arith, (c.requires.0, laws.then-first _ _ c.requires.1))
 
-pub eval_two-eval_operand-requires-in-Value : goal.eval_two-eval_operand-requires-in-Value
-eval_two-eval_operand-requires-in-Value t c =
+pub eval_two-eval_operand-requires-2 : goal.eval_two-eval_operand-requires-2
+eval_two-eval_operand-requires-2 t c =
     let a = c.args in
-    (omega arith, (c.requires.0, laws.two-next a.left a.v a.s.now a.at a.vars.now c.requires.1 _ _ (told c.eval_operand.ensures c.in-Value.is)))
+    (omega arith, (c.requires.0, laws.two-next a.left a.v a.s.now a.at a.vars.now c.requires.1 _ _ (told c.eval_operand.ensures c.in_ok-x.was)))
 
-pub eval_two-returns-in-Fault : goal.eval_two-returns-in-Fault
-eval_two-returns-in-Fault t c = laws.two-fault _ _ _ _ _ c.requires.1 _ (told c.eval_operand.ensures c.in-Fault.is)
+pub eval_two-returns-in_err-x : goal.eval_two-returns-in_err-x
+eval_two-returns-in_err-x t c = passed _ _ c.from_residual.ensures.1 ∙ laws.two-fault _ _ _ _ _ c.requires.1 _ (told c.eval_operand.ensures c.in_err-x.was)
 
-pub eval_two-returns-in-Fault-eval_operand : goal.eval_two-returns-in-Fault-eval_operand
-eval_two-returns-in-Fault-eval_operand t c =
-    laws.two_fault_2 _ _ _ _ _ c.requires.1 _ _ _ (told c.eval_operand.ensures c.in-Value.is) (told c.eval_operand-in-Value.ensures c.in-Fault-eval_operand.is)
+pub eval_two-returns-in_err-y : goal.eval_two-returns-in_err-y
+eval_two-returns-in_err-y t c =
+    passed _ _ c.from_residual-in_err-y.ensures.1 ∙ laws.two_fault_2 _ _ _ _ _ c.requires.1 _ _ _ (told c.eval_operand.ensures c.in_ok-x.was) (told c.eval_operand-2.ensures c.in_err-y.was)
 
-pub eval_two-returns-in-Value-eval_operand : goal.eval_two-returns-in-Value-eval_operand
-eval_two-returns-in-Value-eval_operand t c =
-    rw (bound c.in-Value.x (omega arith), bound c.in-Value-eval_operand.y (omega arith))
-    (laws.two-values _ _ _ _ _ c.requires.1 _ _ _ _ (told c.eval_operand.ensures c.in-Value.is) (told c.eval_operand-in-Value.ensures c.in-Value-eval_operand.is))
+pub eval_two-returns : goal.eval_two-returns
+eval_two-returns t c =
+    rw (bound c.in_ok-x.x (omega arith), bound c.in_ok-y.y (omega arith))
+    (laws.two-values _ _ _ _ _ c.requires.1 _ _ _ _ (told c.eval_operand.ensures c.in_ok-x.was) (told c.eval_operand-2.ensures c.in_ok-y.was))

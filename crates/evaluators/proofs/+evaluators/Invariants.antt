@@ -2,7 +2,7 @@
 -- one more for the functions that call `eval_expr` or `eval_cond` at the levels that they have, and two more for those that call such a function
 -- there.
 use Rattle.std.proofs.Common.{◌+◌, ◌*◌}
-use Rattle.evaluators.proofs.+eval_arm_eval_case_eval_cond_eval_expr_eval_join_eval_operand_eval_two.Given as goal
+use Rattle.evaluators.proofs.+evaluators.Given as goal
 
 abbrev pub decreases-eval_arm : goal.decreases-eval_arm
 decreases-eval_arm l = 3 * l.left + 1
