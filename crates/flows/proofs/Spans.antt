@@ -7,7 +7,7 @@ use mathlib.Core.List.{List, [], ◌∷◌, ◌++◌, append_assoc, append-nil}
 use lib.Dec.{ltb, eqb}
 use lib.ListN.{length, get_or}
 use borrow.Author.Tests.{lt-ltb, le-ltb, eqb-true, eqb-false}
-use Rattle.flows.specs.Marks.{Mark, carries, tag_width, mark_of, tags_for, tags_in, marks_for, marks_in}
+use Rattle.flows.specs.Marks.{Mark, carries, tag_width, mark_of, tags_for, tags_in, marks_of, marks_for, marks_in}
 
 -- a byte is this one, or another
 pub either : (P : ℕ → Type 0) (t c : ℕ) → P c → ((t ≡ c → ⊥) → P t) → P t
@@ -49,11 +49,6 @@ pub tags-none : (s : List ℕ) (at to : ℕ) → to ≤ at → tags_in s at to �
 unfolding tags_for
 tags-none s at zero h = refl
 tags-none s at (suc n) h = rw (le-ltb at (suc n) h)
-
--- what counts of them
-abbrev pub marks_of : List (ℕ × ℕ) → List Mark
-marks_of [] = []
-marks_of (m ∷ ms) = mark_of m.0 m.1 ++ marks_of ms
 
 marks-are : (f : ℕ) (s : List ℕ) (at to : ℕ) → marks_for f s at to ≡ marks_of (tags_for f s at to)
 unfolding tags_for marks_for

@@ -8,8 +8,8 @@ use mathlib.Core.List.{List, [], ◌∷◌, ◌++◌}
 use Rattle.std.specs.List.{list_any}
 use lib.Dec.{leb, eqb}
 use borrow.Author.Tests.{ne_eqb, le-leb, lt-leb}
-use Rattle.flows.specs.Marks.{Mark, carries, tag_width, mark_of, has, reads_first}
-use Rattle.flows.proofs.Spans.{either, marks_of}
+use Rattle.flows.specs.Marks.{Mark, carries, tag_width, mark_of, marks_of, has, reads_first}
+use Rattle.flows.proofs.Spans.{either}
 
 -- ---- how wide a tag is
 pub tag_width-one : (t : ℕ) → (t ≡ 0x01 → ⊥) → ((t ≡ 0x02) ⊎ (t ≡ 0x20) → ⊥) → (t ≡ 0x30 → ⊥) → (t ≡ 0x31 → ⊥) → 1 ≡ tag_width t

@@ -13,6 +13,12 @@ pub record Ruled (s : List ℕ) : Type 0 where
   pub is : parsed s ≡ got rule end
   pub short : length s ≤ longest
 
+-- a rule's bytes, the number of its blocks, and where each begins and the last one ends
+pub record Placed (r : Rule) (s bytes : List ℕ) (n : ℕ) (starts : List ℕ) : Type 0 where
+  pub bytes_are : bytes ≡ s
+  pub number : n ≡ size r
+  pub places : (b : ℕ) → b ≤ size r → get_or starts b 0 ≡ place_of r s b
+
 -- where each block begins and the last one ends, and what each reads first, sets and names
 pub record Told (r : Rule) (s starts : List ℕ) (fv bv gotos jumps : List Bool) : Type 0 where
   pub places : (b : ℕ) → b ≤ size r → get_or starts b 0 ≡ place_of r s b

@@ -26,6 +26,11 @@ tags_in s at to = tags_for to s at to
 unfoldable pub mark_of : ℕ → ℕ → List Mark
 mark_of t x = cond (eqb t 0x02 || leb 0x20 t) ((t, cond (carries t) x 0) ∷ []) []
 
+-- what counts of a row of tags
+abbrev pub marks_of : List (ℕ × ℕ) → List Mark
+marks_of [] = []
+marks_of (t ∷ ts) = mark_of t.0 t.1 ++ marks_of ts
+
 -- what counts of the tags from a place up to another. The first number bounds how many tags there are
 unfoldable pub marks_for : ℕ → List ℕ → ℕ → ℕ → List Mark
 marks_for zero s at to = []

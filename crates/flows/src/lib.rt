@@ -9,8 +9,8 @@ ghost use Rattle.definitions.specs.Paths.{goto_in};
 ghost use Rattle.definitions.specs.Smallest.{Smallest};
 ghost use Rattle.definitions.specs.Plan.{end_of};
 ghost use Rattle.closure.specs.Tables.{edge_in, variable_in};
-ghost use Rattle.flows.specs.Flow.{Ruled, Told};
-ghost use Rattle.flows.specs.Marks.{carries, tag_width, tags_in, marks_in, part_in, has, reads_first};
+ghost use Rattle.flows.specs.Flow.{Ruled, Placed, Told};
+ghost use Rattle.flows.specs.Marks.{carries, tag_width, tags_in, marks_of, part_in, has, reads_first};
 ghost use Rattle.std.specs.Iterator.{YieldsFirst, item_count};
 
 use closure::{Blocks, Edges, Variables};
@@ -73,78 +73,37 @@ impl<'a> Iterator for Tags<'a> {
     }
 }
 
-// Whether this tag stands with this operand somewhere from a place up to another.
-fn holds(s: &[u8], from: usize, to: usize, tag: u8, x: u8) -> bool
-    requires { (to ≤ longest) × (carries tag ≡ true) }
-    ensures { result ≡ has tag x (marks_in s.now from to) }
-{
-    let mut tags = Tags { s, at: from, to };
-    tags.any(|m| m == (tag, x))
-}
-
 // The lowest tag of a statement; those of an ending lie above it, and those of what they hold below.
 const STATEMENT: u8 = 0x20;
 
-// Whether variable k is read before it is set, from a place up to another.
-fn reads_first(s: &[u8], from: usize, to: usize, k: u8) -> bool
-    requires { to ≤ longest }
-    ensures { result ≡ reads_first k false (marks_in s.now from to) }
-{
-    let tags = Tags { s, at: from, to };
-    let mut setting = false;
-    for (tag, x) in tags {
-        if (tag, x) == (0x02, k) {
-            return true;
-        }
-        // the next statement or the ending: a set before it now shields
-        if STATEMENT <= tag {
-            if setting {
-                return false;
+impl<'a> Tags<'a> {
+    // Whether this one is among them, with this operand.
+    fn hold(mut self, tag: u8, x: u8) -> bool
+        requires { carries tag ≡ true }
+        ensures { result ≡ has tag x (marks_of self.entry) }
+    {
+        self.any(|m| m == (tag, x))
+    }
+
+    // Whether variable k is read before it is set.
+    fn read_first(self, k: u8) -> bool
+        ensures { result ≡ reads_first k false (marks_of self.entry) }
+    {
+        let mut setting = false;
+        for (tag, x) in self {
+            if (tag, x) == (0x02, k) {
+                return true;
             }
-            setting = (tag, x) == (0x20, k);
+            // the next statement or the ending: a set before it now shields
+            if STATEMENT <= tag {
+                if setting {
+                    return false;
+                }
+                setting = (tag, x) == (0x20, k);
+            }
         }
+        false
     }
-    false
-}
-
-// What each of n blocks reads first, if it counts, and what it sets.
-#[derive(Drop)]
-struct Touched {
-    reads: Variables,
-    sets: Variables,
-}
-
-fn uses(s: &[u8], n: usize, places: &Places, counts: &Blocks) -> Touched
-    requires { (n ≤ most_blocks) × ((b : ℕ) → b ≤ n → get_or places.now b 0 ≤ longest) }
-    ensures { (b k : ℕ) → b < n → k < most_variables
-        → (variable_in result.reads b k ≡ (among counts.now b && reads_first k false (part_in s.now places.now b)))
-        × (variable_in result.sets b k ≡ has 0x20 k (part_in s.now places.now b)) }
-{
-    let mut reads = [false; BLOCKS * VARIABLES];
-    let mut sets = [false; BLOCKS * VARIABLES];
-    for i in 0..n * VARIABLES {
-        let b = i / VARIABLES;
-        let k = (i % VARIABLES) as u8;
-        let from = places[b];
-        let to = places[b + 1];
-        reads[i] = counts[b] && reads_first(s, from, to, k);
-        sets[i] = holds(s, from, to, 0x20, k);
-    }
-    Touched { reads, sets }
-}
-
-// The blocks that each of n blocks names by a goto, or by a jump, as the tag says.
-fn named(s: &[u8], n: usize, places: &Places, tag: u8) -> Edges
-    requires { (n ≤ most_blocks) × (carries tag ≡ true) × ((b : ℕ) → b ≤ n → get_or places.now b 0 ≤ longest) }
-    ensures { (b t : ℕ) → b < n → t < most_blocks → edge_in result b t ≡ has tag t (part_in s.now places.now b) }
-{
-    let mut out = [false; BLOCKS * BLOCKS];
-    for i in 0..n * BLOCKS {
-        let b = i / BLOCKS;
-        let t = (i % BLOCKS) as u8;
-        out[i] = holds(s, places[b], places[b + 1], tag, t);
-    }
-    out
 }
 
 // Where each of n blocks begins and where the last one ends, as far as they can be read.
@@ -169,6 +128,72 @@ fn places_of(s: &[u8], n: u8, v: u8) -> Places
     }
     out[b as usize] = at;
     out
+}
+
+// A rule's bytes, and where each of its n blocks begins and the last one ends.
+#[derive(Drop)]
+struct Body<'a> {
+    s: &'a [u8],
+    n: usize,
+    places: Places,
+    ghost few: { n ≤ most_blocks },
+    ghost near: { (b : ℕ) → b ≤ n → get_or places b 0 ≤ longest },
+}
+
+impl<'a> Body<'a> {
+    fn of(s: &'a [u8]) -> Body<'a>
+        requires { Ruled s.now }
+        ensures { (r : Rule) (m : ℕ) → parsed s.now ≡ got r m → Placed r s.now result.s.now result.n result.places }
+    {
+        let n = s[3];
+        let places = places_of(s, n, s[1]);
+        Body {
+            s,
+            n: n as usize,
+            places,
+        }
+    }
+
+    // The tags of block b.
+    fn tags(&self, b: usize) -> Tags<'a>
+        requires { b < self.now.n }
+        ensures { marks_of result ≡ part_in self.now.s.now self.now.places b }
+    {
+        Tags {
+            s: self.s,
+            at: self.places[b],
+            to: self.places[b + 1],
+        }
+    }
+
+    // What each block reads first, if it counts, and what it sets.
+    fn uses(&self, counts: &Blocks) -> (Variables, Variables)
+        ensures { (b k : ℕ) → b < self.now.n → k < most_variables
+            → (variable_in result.0 b k ≡ (among counts.now b && reads_first k false (part_in self.now.s.now self.now.places b)))
+            × (variable_in result.1 b k ≡ has 0x20 k (part_in self.now.s.now self.now.places b)) }
+    {
+        let mut reads = [false; BLOCKS * VARIABLES];
+        let mut sets = [false; BLOCKS * VARIABLES];
+        for i in 0..self.n * VARIABLES {
+            let b = i / VARIABLES;
+            let k = (i % VARIABLES) as u8;
+            reads[i] = counts[b] && self.tags(b).read_first(k);
+            sets[i] = self.tags(b).hold(0x20, k);
+        }
+        (reads, sets)
+    }
+
+    // The blocks that each block names by a goto, or by a jump, as the tag says.
+    fn named(&self, tag: u8) -> Edges
+        requires { carries tag ≡ true }
+        ensures { (b t : ℕ) → b < self.now.n → t < most_blocks → edge_in result b t ≡ has tag t (part_in self.now.s.now self.now.places b) }
+    {
+        let mut out = [false; BLOCKS * BLOCKS];
+        for i in 0..self.n * BLOCKS {
+            out[i] = self.tags(i / BLOCKS).hold(tag, (i % BLOCKS) as u8);
+        }
+        out
+    }
 }
 
 // ---- the blocks that are led to
@@ -216,10 +241,7 @@ pub fn gotos_of(s: &[u8]) -> Edges
     requires { Ruled s.now }
     ensures { (r : Rule) (m : ℕ) → parsed s.now ≡ got r m → (b t : ℕ) → b < size r → t < size r → edge_in result b t ≡ goto_in r b t }
 {
-    let n = s[3];
-    let v = s[1];
-    let places = places_of(s, n, v);
-    named(s, n as usize, &places, 0x30)
+    Body::of(s).named(0x30)
 }
 
 // Where the blocks of a rule stand, and its flow: FV and BV, gotos and jumps.
@@ -236,18 +258,14 @@ pub fn flow_of(s: &[u8]) -> Flows
     requires { Ruled s.now }
     ensures { (r : Rule) (m : ℕ) → parsed s.now ≡ got r m → Told r s.now result.places result.fv result.bv result.gotos result.jumps }
 {
-    let n = s[3];
-    let v = s[1];
-    let count = n as usize;
-    let places = places_of(s, n, v);
-    let all_gotos = named(s, count, &places, 0x30);
-    let all_jumps = named(s, count, &places, 0x31);
-    let led = led_to(count, &all_gotos, &all_jumps);
-    let touched = uses(s, count, &places, &led);
-    let fv = touched.reads;
-    let bv = touched.sets;
-    let gotos = only(count, &led, &all_gotos);
-    let jumps = only(count, &led, &all_jumps);
+    let body = Body::of(s);
+    let all_gotos = body.named(0x30);
+    let all_jumps = body.named(0x31);
+    let led = led_to(body.n, &all_gotos, &all_jumps);
+    let (fv, bv) = body.uses(&led);
+    let gotos = only(body.n, &led, &all_gotos);
+    let jumps = only(body.n, &led, &all_jumps);
+    let places = body.places;
     Flows {
         places,
         fv,
