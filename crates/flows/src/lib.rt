@@ -78,7 +78,7 @@ const STATEMENT: u8 = 0x20;
 
 impl<'a> Tags<'a> {
     // Whether this one is among them, with this operand.
-    fn hold(mut self, tag: u8, x: u8) -> bool
+    fn has(mut self, tag: u8, x: u8) -> bool
         requires { carries tag ≡ true }
         ensures { result ≡ has tag x (marks_of self.entry) }
     {
@@ -86,7 +86,7 @@ impl<'a> Tags<'a> {
     }
 
     // Whether variable k is read before it is set.
-    fn read_first(self, k: u8) -> bool
+    fn reads_first(self, k: u8) -> bool
         ensures { result ≡ reads_first k false (marks_of self.entry) }
     {
         let mut setting = false;
@@ -106,27 +106,19 @@ impl<'a> Tags<'a> {
     }
 }
 
-// Where each of n blocks begins and where the last one ends, as far as they can be read.
+// Where each of n blocks begins and where the last one ends, as far as they can be read: each begins where the one before ends.
 fn places_of(s: &[u8], n: u8, v: u8) -> Places
     requires { n ≤ most_blocks }
     ensures { (bs : List Block) (m : ℕ) → blocks_to n v s.now n ≡ got bs m → (b : ℕ) → b ≤ n → get_or result b 0 ≡ end_of (blocks_to n v s.now b) }
 {
     let mut out = [0usize; BLOCKS + 1];
-    let mut at = 4;
-    let mut b: u8 = 0;
-    while b < n {
-        out[b as usize] = at;
-        match read_block(s, at, v, n) {
-            Read::Next(next) => {
-                at = next;
-            }
-            Read::Refused(_) => {
-                return out;
-            }
+    out[0] = 4;
+    for b in 0..n as usize {
+        match read_block(s, out[b], v, n) {
+            Read::Next(next) => out[b + 1] = next,
+            Read::Refused(_) => return out,
         }
-        b += 1;
     }
-    out[b as usize] = at;
     out
 }
 
@@ -141,7 +133,7 @@ struct Body<'a> {
 }
 
 impl<'a> Body<'a> {
-    fn of(s: &'a [u8]) -> Body<'a>
+    fn new(s: &'a [u8]) -> Body<'a>
         requires { Ruled s.now }
         ensures { (r : Rule) (m : ℕ) → parsed s.now ≡ got r m → Placed r s.now result.s.now result.n result.places }
     {
@@ -177,8 +169,8 @@ impl<'a> Body<'a> {
         for i in 0..self.n * VARIABLES {
             let b = i / VARIABLES;
             let k = (i % VARIABLES) as u8;
-            reads[i] = counts[b] && self.tags(b).read_first(k);
-            sets[i] = self.tags(b).hold(0x20, k);
+            reads[i] = counts[b] && self.tags(b).reads_first(k);
+            sets[i] = self.tags(b).has(0x20, k);
         }
         (reads, sets)
     }
@@ -190,7 +182,7 @@ impl<'a> Body<'a> {
     {
         let mut out = [false; BLOCKS * BLOCKS];
         for i in 0..self.n * BLOCKS {
-            out[i] = self.tags(i / BLOCKS).hold(tag, (i % BLOCKS) as u8);
+            out[i] = self.tags(i / BLOCKS).has(tag, (i % BLOCKS) as u8);
         }
         out
     }
@@ -241,7 +233,7 @@ pub fn gotos_of(s: &[u8]) -> Edges
     requires { Ruled s.now }
     ensures { (r : Rule) (m : ℕ) → parsed s.now ≡ got r m → (b t : ℕ) → b < size r → t < size r → edge_in result b t ≡ goto_in r b t }
 {
-    Body::of(s).named(0x30)
+    Body::new(s).named(0x30)
 }
 
 // Where the blocks of a rule stand, and its flow: FV and BV, gotos and jumps.
@@ -258,7 +250,7 @@ pub fn flow_of(s: &[u8]) -> Flows
     requires { Ruled s.now }
     ensures { (r : Rule) (m : ℕ) → parsed s.now ≡ got r m → Told r s.now result.places result.fv result.bv result.gotos result.jumps }
 {
-    let body = Body::of(s);
+    let body = Body::new(s);
     let all_gotos = body.named(0x30);
     let all_jumps = body.named(0x31);
     let led = led_to(body.n, &all_gotos, &all_jumps);

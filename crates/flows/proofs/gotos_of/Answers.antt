@@ -9,4 +9,4 @@ unfolding carries
 named-requires c = refl
 
 pub returns : goal.returns
-returns c = λ r m e. goto-is _ r m e _ _ _ (c.of.ensures r m e) _ c.named.ensures
+returns c = λ r m e. goto-is _ r m e _ _ _ (c.new.ensures r m e) _ c.named.ensures

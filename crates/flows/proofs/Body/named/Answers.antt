@@ -7,7 +7,7 @@ use Rattle.flows.proofs.Body.named.Goals as goal
 
 pub loop-i-preserved : goal.loop-i-preserved
 unfolding entry_of
-loop-i-preserved c = written-set _ _ _ _ _ _ (omega arith) c.loop-i.invariant (c.hold.ensures ∙ ap (has c.args.tag _) c.tags.ensures)
+loop-i-preserved c = written-set _ _ _ _ _ _ (omega arith) c.loop-i.invariant (c.has.ensures ∙ ap (has c.args.tag _) c.tags.ensures)
 
 pub returns : goal.returns
 returns c = in_rows _ _ 64 c.args.self.now.n _ _ _ (omega arith) c.loop-i.invariant

@@ -8,15 +8,15 @@ use Rattle.flows.specs.Marks.{carries, has, reads_first}
 use Rattle.flows.proofs.Body.uses.Goals as goal
 use Rattle.flows.proofs.Body.uses.Goals.{then-counts-b, else-counts-b}
 
-pub hold-requires : goal.hold-requires
+pub has-requires : goal.has-requires
 unfolding carries
-hold-requires c = refl
+has-requires c = refl
 
 pub loop-i-preserved : goal.loop-i-preserved
 unfolding entry_of
 loop-i-preserved c = (
-  written-set _ _ _ _ _ _ (omega arith) c.loop-i.invariant.0 (elim c.if-counts-b.branch [ then-counts-b w ↦ rw w.if-counts-b.true (w.reads-is ∙ (w.read_first.ensures ∙ ap (reads_first _ false) w.tags.ensures)) | else-counts-b w ↦ rw w.if-counts-b.false (w.reads-is ∙ w.if-counts-b.false) ]),
-  written-set _ _ _ _ _ _ (omega arith) c.loop-i.invariant.1 (c.hold.ensures ∙ ap (has 0x20 _) c.tags-in-loop-i.ensures),
+  written-set _ _ _ _ _ _ (omega arith) c.loop-i.invariant.0 (elim c.if-counts-b.branch [ then-counts-b w ↦ rw w.if-counts-b.true (w.reads-is ∙ (w.reads_first.ensures ∙ ap (reads_first _ false) w.tags.ensures)) | else-counts-b w ↦ rw w.if-counts-b.false (w.reads-is ∙ w.if-counts-b.false) ]),
+  written-set _ _ _ _ _ _ (omega arith) c.loop-i.invariant.1 (c.has.ensures ∙ ap (has 0x20 _) c.tags-in-loop-i.ensures),
 )
 
 pub returns : goal.returns

@@ -1,6 +1,6 @@
--- `Tags::read_first` meets its contract. The loop's invariant: the tags still to come say what all say, `setting` being the flag of `reads_first`.
+-- `Tags::reads_first` meets its contract. The loop's invariant: the tags still to come say what all say, `setting` being the flag of `reads_first`.
 use Rattle.flows.proofs.Steps.{first-none, first-here, first-shielded, first_part, first-inside}
-use Rattle.flows.proofs.Tags.read_first.Goals as goal
+use Rattle.flows.proofs.Tags.reads_first.Goals as goal
 
 pub returns-then-eq : goal.returns-then-eq
 returns-then-eq c = first-here _ _ _ _ c.loop-tag.invariant.2 _ _ _ c.in-Some.ensures.steps _ c.eq.ensures c.if-eq.true

@@ -1,7 +1,7 @@
--- `Body::of` meets its contract.
+-- `Body::new` meets its contract.
 use native.Mathlib.Omega.{arith}
 use Rattle.flows.proofs.Flow.{header, few, in_reach, placed}
-use Rattle.flows.proofs.Body.of.Goals as goal
+use Rattle.flows.proofs.Body.new.Goals as goal
 
 pub bounds-s-3 : goal.bounds-s-3
 bounds-s-3 c = header _ c.requires

@@ -1,4 +1,4 @@
--- `Tags::hold` meets its contract.
+-- `Tags::has` meets its contract.
 use mathlib.Core.Path.{refl, ◌∙◌}
 use mathlib.Core.Bool.{◌&&◌}
 use borrow.Author.Tests.{tests}
@@ -7,7 +7,7 @@ use Rattle.std.proofs.Common.{rules}
 use Rattle.std.proofs.lemmas.Iterator.Search.{any_from_yields_List}
 use Rattle.std.proofs.lemmas.Iterator.Consumers.{YieldsList-from_first}
 use Rattle.flows.proofs.Steps.{has-any}
-use Rattle.flows.proofs.Tags.hold.Goals as goal
+use Rattle.flows.proofs.Tags.has.Goals as goal
 
 pub returns : goal.returns
 returns c =

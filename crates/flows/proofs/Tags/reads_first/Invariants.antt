@@ -1,8 +1,8 @@
--- `Tags::read_first` meets its contract. The loop's invariant: the tags still to come say what all say, `setting` being the flag of `reads_first`.
+-- `Tags::reads_first` meets its contract. The loop's invariant: the tags still to come say what all say, `setting` being the flag of `reads_first`.
 use mathlib.Core.Path.{◌≡◌}
 use mathlib.Core.Bool.{false}
 use Rattle.flows.specs.Marks.{marks_of, reads_first}
-use Rattle.flows.proofs.Tags.read_first.Given as goal
+use Rattle.flows.proofs.Tags.reads_first.Given as goal
 
 abbrev pub invariant-loop-tag : goal.invariant-loop-tag
 invariant-loop-tag l =
