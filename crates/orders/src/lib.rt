@@ -49,24 +49,12 @@ fn rises(n: usize, edges: &Edges) -> bool
 
 // ---- cycles
 
-// The blocks with a goto to b.
-fn into(n: usize, edges: &Edges, b: usize) -> Blocks
-    requires { (n ≤ most_blocks) × (b < n) }
-    ensures { (c : ℕ) → c < n → among result c ≡ edge_in edges.now c b }
-{
-    let mut out = [false; BLOCKS];
-    for c in 0..n {
-        out[c] = edges[c * BLOCKS + b];
-    }
-    out
-}
-
 // One goto or more lead from b to b.
 fn on_cycle(n: usize, edges: &Edges, b: usize) -> bool
     requires { (n ≤ most_blocks) × (b < n) }
     ensures { (result ≡ true) ↔ OnCycle n (edge_in edges.now) b }
 {
-    let seed = into(n, edges, b);
+    let seed = closure::blocks_where(n, |c| edges[c * BLOCKS + b]);
     let set = closure::smallest(n, &seed, edges);
     set[b]
 }
