@@ -1,1 +1,2 @@
 pub mod Tags
+pub mod Words

@@ -1,11 +1,12 @@
 // The operators and comparisons of 32-bit signed values. An operator gives its exact result, or the kind of the fault that stands in its place.
 #![tactic(auto)]
 
-ghost use Rattle.std.specs.Prelude.{◌≡◌, ◌+◌, ◌≤◌, length};
+ghost use Rattle.std.specs.Prelude.{◌≡◌, ◌+◌, ◌*◌, ◌≤◌, length};
 ghost use Rattle.definitions.specs.Values.{outcome_of, settled, negation, sum, difference, product, quotient, remainder, is_less, is_equal};
 ghost use Rattle.definitions.specs.Meaning.{applied, compared, decided};
 ghost use Rattle.definitions.specs.Grammar.{word_of, twos, constant_in};
 ghost use Rattle.values.specs.Tags.{operator_of, relation_of, joint_of};
+ghost use Rattle.values.specs.Words.{constants_in};
 
 use definitions::Kind;
 
@@ -121,4 +122,14 @@ pub fn constant(s: &[u8], at: usize) -> i32
     ensures { result ≡ constant_in s.now at }
 {
     i32::from_le_bytes([s[at], s[at + 1], s[at + 2], s[at + 3]])
+}
+
+// The constants in the bytes, as many as there is room for.
+pub fn constants(s: &[u8], words: &mut [i32])
+    requires { 4 * length words.old ≤ length s.now }
+    ensures { words.new ≡ constants_in s.now (length words.old) }
+{
+    for (i, word) in words.iter_mut().enumerate() {
+        *word = constant(s, 4 * i);
+    }
 }
