@@ -66,8 +66,11 @@ module _ (s : List ℕ) (ruled : Ruled s) where
 -- what is told of the tables of n blocks
 module _ (n : ℕ) where
   module _ (s starts : List ℕ) where
-    abbrev pub Used : List Bool → List Bool → List Bool → Type 0
-    Used led fv bv = (b k : ℕ) → b < n → k < most_variables → (variable_in fv b k ≡ (among led b && reads_first k false (part_in s starts b))) × (variable_in bv b k ≡ has 0x20 k (part_in s starts b))
+    abbrev pub Reads : List Bool → List Bool → Type 0
+    Reads led fv = (b k : ℕ) → b < n → k < most_variables → variable_in fv b k ≡ (among led b && reads_first k false (part_in s starts b))
+
+    abbrev pub Sets : List Bool → Type 0
+    Sets bv = (b k : ℕ) → b < n → k < most_variables → variable_in bv b k ≡ has 0x20 k (part_in s starts b)
 
     abbrev pub Named : ℕ → List Bool → Type 0
     Named tag named = (b t : ℕ) → b < n → t < most_blocks → edge_in named b t ≡ has tag t (part_in s starts b)
@@ -106,17 +109,17 @@ module _ (s : List ℕ) (r : Rule) (m : ℕ) (e : parsed s ≡ got r m) (bytes :
     led-is led w =
         smallest-only (alike (λ b h. refl) (λ t b h l. ap₂ (λ (x y : Bool). x || y) (goto-is gotos by-goto b t l h) (jump-is b t l h)) (rw p.number at w)) (closure-smallest (size r) _ _)
 
-    pub told : (led fv bv gotos' jumps' : List Bool) → Led n gotos jumps led → Used n bytes starts led fv bv → Only n led gotos gotos' → Only n led jumps jumps' → Told r s starts fv bv gotos' jumps'
-    told led fv bv gotos' jumps' w used goes jumps-on =
+    pub told : (led fv bv gotos' jumps' : List Bool) → Led n gotos jumps led → Reads n bytes starts led fv → Sets n bytes starts bv → Only n led gotos gotos' → Only n led jumps jumps' → Told r s starts fv bv gotos' jumps'
+    told led fv bv gotos' jumps' w reads sets goes jumps-on =
         let i = rule-in s r m e in
         record {
           places = p.places;
           tables = record {
             blocks = refl;
             FV = λ b k h l.
-                (used b k (omega (arith, p.number)) (omega arith)).0
+                reads b k (omega (arith, p.number)) (omega arith)
                 ∙ ap₂ (λ (x y : Bool). x && y) (led-is led w b h) (ap (reads_first k false) (part b h) ∙ marks-read (block_of r b).body (block_of r b).ending k);
-            BV = λ b k h l. (used b k (omega (arith, p.number)) (omega arith)).1 ∙ (ap (has 0x20 k) (part b h) ∙ marks-sets (block_of r b).body (block_of r b).ending k);
+            BV = λ b k h l. sets b k (omega (arith, p.number)) (omega arith) ∙ (ap (has 0x20 k) (part b h) ∙ marks-sets (block_of r b).body (block_of r b).ending k);
             gotos' = λ b t h l. goes b t (omega (arith, p.number)) (omega arith) ∙ ap₂ (λ (x y : Bool). x && y) (led-is led w b h) (goto-is gotos by-goto b t h l);
             jumps' = λ b t h l. jumps-on b t (omega (arith, p.number)) (omega arith) ∙ ap₂ (λ (x y : Bool). x && y) (led-is led w b h) (jump-is b t h l);
           };

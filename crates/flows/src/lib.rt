@@ -13,8 +13,8 @@ ghost use Rattle.flows.specs.Flow.{Ruled, Placed, Told};
 ghost use Rattle.flows.specs.Marks.{carries, tag_width, tags_in, marks_of, part_in, has, reads_first};
 ghost use Rattle.std.specs.Iterator.{YieldsFirst, item_count};
 
-use closure::{Blocks, Edges, Variables};
-use definitions::{BLOCKS, Read, VARIABLES};
+use closure::{Blocks, Edges, Variables, edges_where, smallest, variables_where};
+use definitions::{BLOCKS, Read};
 use readers::blocks::read_block;
 use std::marker::Model;
 
@@ -158,21 +158,22 @@ impl<'a> Body<'a> {
         }
     }
 
-    // What each block reads first, if it counts, and what it sets.
-    fn uses(&self, counts: &Blocks) -> (Variables, Variables)
+    // The variables that each block reads before it sets them, if it counts.
+    fn reads(&self, counts: &Blocks) -> Variables
         ensures { (b k : ℕ) → b < self.now.n → k < most_variables
-            → (variable_in result.0 b k ≡ (among counts.now b && reads_first k false (part_in self.now.s.now self.now.places b)))
-            × (variable_in result.1 b k ≡ has 0x20 k (part_in self.now.s.now self.now.places b)) }
+            → variable_in result b k ≡ (among counts.now b && reads_first k false (part_in self.now.s.now self.now.places b)) }
     {
-        let mut reads = [false; BLOCKS * VARIABLES];
-        let mut sets = [false; BLOCKS * VARIABLES];
-        for i in 0..self.n * VARIABLES {
-            let b = i / VARIABLES;
-            let k = (i % VARIABLES) as u8;
-            reads[i] = counts[b] && self.tags(b).reads_first(k);
-            sets[i] = self.tags(b).has(0x20, k);
-        }
-        (reads, sets)
+        variables_where(
+            self.n,
+            |b, k| counts[b] && self.tags(b).reads_first(k as u8),
+        )
+    }
+
+    // The variables that each block sets.
+    fn sets(&self) -> Variables
+        ensures { (b k : ℕ) → b < self.now.n → k < most_variables → variable_in result b k ≡ has 0x20 k (part_in self.now.s.now self.now.places b) }
+    {
+        variables_where(self.n, |b, k| self.tags(b).has(0x20, k as u8))
     }
 
     // The blocks that each block names by a goto, or by a jump, as the tag says.
@@ -180,29 +181,8 @@ impl<'a> Body<'a> {
         requires { carries tag ≡ true }
         ensures { (b t : ℕ) → b < self.now.n → t < most_blocks → edge_in result b t ≡ has tag t (part_in self.now.s.now self.now.places b) }
     {
-        let mut out = [false; BLOCKS * BLOCKS];
-        for i in 0..self.n * BLOCKS {
-            out[i] = self.tags(i / BLOCKS).has(tag, (i % BLOCKS) as u8);
-        }
-        out
+        edges_where(self.n, |b, t| self.tags(b).has(tag, t as u8))
     }
-}
-
-// ---- the blocks that are led to
-
-// An edge from each of n blocks to every block that names it.
-fn named_by(n: usize, gotos: &Edges, jumps: &Edges) -> Edges
-    requires { n ≤ most_blocks }
-    ensures { (t b : ℕ) → t < n → b < most_blocks → edge_in result t b ≡ (edge_in gotos.now b t || edge_in jumps.now b t) }
-{
-    let mut out = [false; BLOCKS * BLOCKS];
-    for i in 0..n * BLOCKS {
-        let t = i / BLOCKS;
-        let b = i % BLOCKS;
-        let back = b * BLOCKS + t;
-        out[i] = gotos[back] || jumps[back];
-    }
-    out
 }
 
 // Block 0, and with a block all that it names.
@@ -212,8 +192,9 @@ fn led_to(n: usize, gotos: &Edges, jumps: &Edges) -> Blocks
 {
     let mut entry = [false; BLOCKS];
     entry[0] = true;
-    let edges = named_by(n, gotos, jumps);
-    closure::smallest(n, &entry, &edges)
+    // from each block to every block that names it
+    let edges = edges_where(n, |t, b| gotos[b * BLOCKS + t] || jumps[b * BLOCKS + t]);
+    smallest(n, &entry, &edges)
 }
 
 // Of n blocks' edges those of the blocks that count.
@@ -221,11 +202,7 @@ fn only(n: usize, counts: &Blocks, edges: &Edges) -> Edges
     requires { n ≤ most_blocks }
     ensures { (b t : ℕ) → b < n → t < most_blocks → edge_in result b t ≡ (among counts.now b && edge_in edges.now b t) }
 {
-    let mut out = [false; BLOCKS * BLOCKS];
-    for i in 0..n * BLOCKS {
-        out[i] = counts[i / BLOCKS] && edges[i];
-    }
-    out
+    edges_where(n, |b, t| counts[b] && edges[b * BLOCKS + t])
 }
 
 // The gotos of a rule, of all its blocks, whether or not anything leads to them.
@@ -254,7 +231,8 @@ pub fn flow_of(s: &[u8]) -> Flows
     let all_gotos = body.named(0x30);
     let all_jumps = body.named(0x31);
     let led = led_to(body.n, &all_gotos, &all_jumps);
-    let (fv, bv) = body.uses(&led);
+    let fv = body.reads(&led);
+    let bv = body.sets();
     let gotos = only(body.n, &led, &all_gotos);
     let jumps = only(body.n, &led, &all_jumps);
     let places = body.places;
