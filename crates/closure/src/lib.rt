@@ -33,7 +33,7 @@ pub fn blocks_where<F: Fn(usize) -> bool>(n: usize, test: F) -> Blocks
     out
 }
 
-// For each block below n the places of its row for which a test holds.
+// A table of one row a block: at each place of a row below n, whether a test holds of the block and the place.
 fn rows_where<const WIDTH: usize, const SIZE: usize, F: Fn(usize, usize) -> bool>(
     n: usize,
     test: F,
@@ -50,7 +50,7 @@ fn rows_where<const WIDTH: usize, const SIZE: usize, F: Fn(usize, usize) -> bool
     out
 }
 
-// The edges from a block below n for which a test holds of their start and end.
+// The edges from the blocks below n for which a test holds of both ends.
 pub fn edges_where<F: Fn(usize, usize) -> bool>(n: usize, test: F) -> Edges
     requires size { n ≤ most_blocks }
     requires callable { (b t : ℕ) → b < n → t < most_blocks → F.pre test b t }
@@ -59,7 +59,7 @@ pub fn edges_where<F: Fn(usize, usize) -> bool>(n: usize, test: F) -> Edges
     rows_where::<BLOCKS, _, F>(n, test)
 }
 
-// The variables of a block below n for which a test holds.
+// The variables of each block below n for which a test holds.
 pub fn variables_where<F: Fn(usize, usize) -> bool>(n: usize, test: F) -> Variables
     requires size { n ≤ most_blocks }
     requires callable { (b k : ℕ) → b < n → k < most_variables → F.pre test b k }
@@ -76,7 +76,7 @@ fn feeds(n: usize, edges: &Edges, set: &Blocks, b: usize) -> bool
     (0..n).any(|t| edges[b * BLOCKS + t] && set[t])
 }
 
-// One sweep in place from the last number to the first, in which a number that is added counts at once; whether one was added.
+// One sweep in place from the last number to the first, in which a number that is added counts at once. Says whether it added one.
 fn sweep(n: usize, edges: &Edges, set: &mut Blocks) -> bool
     requires { n ≤ most_blocks }
     ensures { Sweep n (edge_in edges.now) (among set.old) 0 (among set.new) result }

@@ -36,12 +36,12 @@ loop-k-preserved c = λ g t.
     let names = c.edges_where-names.result in
     let j = c.blocks_where-j.result in
     let need = c.needing-need.result in
-    let naming : (b d : ℕ) → b < n → d < n → edge_in names b d ≡ (edge_in c.args.gotos.now b d || edge_in c.args.jumps.now b d) = λ b d h i.
-    let p = c.edges_where-names.ensures b d h (omega arith) in search (rules, tests) in
-    let restarting : (d : ℕ) → d < n → among j d ≡ (eqb d 0 || some n (λ b. edge_in c.args.jumps.now b d)) = λ d i.
-    let p = c.blocks_where-j.ensures d i in search (rules, tests) in
-    let handing : (b : ℕ) → b < n → among c.blocks_where-out.result b ≡ some n (λ d. edge_in names b d && among need d) = λ b h.
-    let p = c.blocks_where-out.ensures b h in search (rules, tests) in
+    let naming : (b d : ℕ) → b < n → d < n → edge_in names b d ≡ (edge_in c.args.gotos.now b d || edge_in c.args.jumps.now b d) =
+    λ b d h i. let p = c.edges_where-names.ensures b d h (omega arith) in search (rules, tests) in
+    let restarting : (d : ℕ) → d < n → among j d ≡ (eqb d 0 || some n (λ b. edge_in c.args.jumps.now b d)) =
+    λ d i. let p = c.blocks_where-j.ensures d i in search (rules, tests) in
+    let handing : (b : ℕ) → b < n → among c.blocks_where-out.result b ≡ some n (λ d. edge_in names b d && among need d) =
+    λ b h. let p = c.blocks_where-out.ensures b h in search (rules, tests) in
     record {
       input = λ b l. mask-more c.loop-k.k (inputs_of g b) _ _ _ (omega arith) ((c.loop-k.invariant g t).input b l)
           (is-input g names j t naming restarting c.loop-k.k (omega arith) _ c.needing-need.ensures b l) (c.mark.ensures b l);

@@ -1,4 +1,4 @@
--- `closure::rows_where` meets its contract. One loop over the flat table: entry i is block i / g.row.WIDTH, target i % g.row.WIDTH.
+-- `closure::rows_where` meets its contract. One loop over the flat table: entry i is in row i / WIDTH at place i % WIDTH.
 use Prim.Native.Nat.{◌/◌, ◌%◌}
 use mathlib.Core.Bool.{false}
 use Rattle.closure.proofs.Laws.{Held}
