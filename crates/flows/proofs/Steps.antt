@@ -1,33 +1,13 @@
 -- The loops over the tags: what one tag more says. Assumes nothing.
 use Prim.Native.Nat.{ℕ, ◌<◌, ◌≤◌}
-use native.Mathlib.Omega.{arith}
-use mathlib.Core.Logic.{◌⊎◌, inl, inr}
 use mathlib.Core.Path.{◌≡◌, refl, sym, ap, ◌∙◌}
 use mathlib.Core.Bool.{Bool, true, false, false≢true, cond, not, ◌&&◌, ◌||◌}
 use mathlib.Core.List.{List, [], ◌∷◌, ◌++◌}
 use Rattle.std.specs.List.{list_any}
 use lib.Dec.{leb, eqb}
 use borrow.Author.Tests.{ne_eqb, le-leb, lt-leb}
-use Rattle.flows.specs.Marks.{Mark, carries, tag_width, mark_of, marks_of, has, reads_first}
+use Rattle.flows.specs.Marks.{Mark, carries, mark_of, marks_of, has, reads_first}
 use Rattle.flows.proofs.Spans.{either}
-
--- ---- how wide a tag is
-pub tag_width-one : (t : ℕ) → (t ≡ 0x01 → ⊥) → ((t ≡ 0x02) ⊎ (t ≡ 0x20) → ⊥) → (t ≡ 0x30 → ⊥) → (t ≡ 0x31 → ⊥) → 1 ≡ tag_width t
-unfolding tag_width carries
-tag_width-one t a b c d = simp (ne_eqb t 0x01 a, ne_eqb t 0x02 (λ e. b (inl e)), ne_eqb t 0x20 (λ e. b (inr e)), ne_eqb t 0x30 c, ne_eqb t 0x31 d)
-
-pub tag_width-operand : (t : ℕ) → (t ≡ 0x02) ⊎ (t ≡ 0x20) → 2 ≡ tag_width t
-unfolding tag_width carries
-tag_width-operand t (inl e) = rw e
-tag_width-operand t (inr e) = rw e
-
-pub tag_width_target : (t : ℕ) → 0x30 ≤ t → t < 0x32 → 2 ≡ tag_width t
-unfolding tag_width carries
-tag_width_target t l h = either (λ u. 2 ≡ tag_width u) t 0x30 refl (λ n. let e : t ≡ 0x31 = omega arith in rw e)
-
-pub tag_width-constant : (t : ℕ) → t ≡ 0x01 → 5 ≡ tag_width t
-unfolding tag_width
-tag_width-constant t e = rw e
 
 -- ---- whether a tag with this operand is among them
 module _ (tag x : ℕ) (carried : carries tag ≡ true) where

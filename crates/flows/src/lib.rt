@@ -1,5 +1,5 @@
 // What each block of a rule reads, sets and names, and where it stands. A block's tags, read one after the other with no regard to what holds what, tell it.
-#![tactic(auto)]
+#![tactic(auto, unfolding(crate::specs::Marks::tag_width, crate::specs::Marks::carries))]
 
 ghost use Rattle.std.specs.Prelude.{◌≡◌, true, false, ◌&&◌, ◌||◌, ℕ, ◌+◌, ◌<◌, ◌≤◌, eqb, get_or, List};
 ghost use Rattle.definitions.specs.Rule.{Block, Rule, size};

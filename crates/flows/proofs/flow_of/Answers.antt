@@ -1,16 +1,6 @@
 -- `flows::flow_of` meets its contract.
-use mathlib.Core.Path.{refl}
-use Rattle.flows.specs.Marks.{carries}
 use Rattle.flows.proofs.Flow.{told}
 use Rattle.flows.proofs.flow_of.Goals as goal
-
-pub named-all_gotos-requires : goal.named-all_gotos-requires
-unfolding carries
-named-all_gotos-requires c = refl
-
-pub named-all_jumps-requires : goal.named-all_jumps-requires
-unfolding carries
-named-all_jumps-requires c = refl
 
 pub returns : goal.returns
 returns c = λ r m e.

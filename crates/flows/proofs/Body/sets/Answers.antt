@@ -1,13 +1,7 @@
 -- `Body::sets` meets its contract.
 use borrow.Author.Rules.{rules}
 use borrow.Author.Tests.{tests}
-use Rattle.std.proofs.iter.Serving.{serving}
-use Rattle.flows.specs.Marks.{carries}
 use Rattle.flows.proofs.Body.sets.Goals as goal
 
 pub returns : goal.returns
 returns c = λ b k h l. let p = c.variables_where.ensures b k h l in search (rules, tests)
-
-pub variables_where-requires-clause-callable : goal.variables_where-requires-clause-callable
-unfolding carries
-variables_where-requires-clause-callable c = grind serving
