@@ -1,47 +1,49 @@
 -- Laws of the input's values, of a run's reply and of the text of its records.
-use Prim.Native.Nat.{ℕ, zero, suc, ◌+◌, ◌-◌, ◌*◌, ◌/◌, ◌≤◌, ◌<◌}
-use mathlib.Core.Path.{◌≡◌, refl, sym, ◌∙◌}
-use mathlib.Core.Bool.{Bool, true, false, cond, ◌||◌}
+use Prim.Native.Nat.{ℕ, zero, suc, ◌+◌, ◌-◌, ◌*◌, ◌≤◌}
+use mathlib.Core.Path.{◌≡◌, refl, sym, ap, ◌∙◌}
+use mathlib.Core.Bool.{Bool, true, false, cond}
 use mathlib.Core.List.{List, [], ◌∷◌, ◌++◌}
-use native.Mathlib.Numerals.{add-one, unary_clauses}
+use native.Mathlib.Numerals.{unary_clauses}
 use native.Mathlib.Omega.{arith}
 use lib.Dec.{ltb}
 use borrow.Author.Tests.{ltb-false}
 use lib.IntN.{pos}
-use lib.ListN.{length, take, drop, set, get_or, replicate}
-use lib.Seq.{take-suc-set}
+use lib.ListN.{length, take, drop, get_or, replicate}
+use Rattle.std.proofs.lemmas.List.{get_or-drop, take_all, length-drop}
+use Rattle.values.specs.Words.{constants_in}
 use Rattle.definitions.specs.Values.{Word}
-use Rattle.definitions.specs.Grammar.{Got, got, refused, constant_in}
+use Rattle.definitions.specs.Grammar.{Got, got, refused}
 use Rattle.definitions.specs.Plan.{planned, longest_plan}
-use Rattle.definitions.specs.Batch.{common}
 use Rattle.definitions.specs.Calls.{Batch, refusal, Ran, Wrote, run_reply, records_in, to_compile, reply_in}
 use Rattle.definitions.specs.declared.Refusal.{Refusal}
 use Rattle.definitions.specs.declared.Reply.{Reply}
 use Rattle.definitions.specs.declared.Reply.TheVariants.{Done, Refused}
 use Rattle.rules.proofs.Promises.{done-bytes}
 use Rattle.printing.specs.Text.{words_text, line_text, lines_text, record_at, answer_text, refusal_text}
-use Rattle.answers.specs.Answer.{number_in, words_in, no_batch, batch_in, result_room, work_room, ran_answer, batch_answer, input_answer, file_answer, answer_to, most_input}
+use Rattle.answers.specs.Answer.{words_in, no_batch, batch_in, result_room, work_room, ran_answer, batch_answer, input_answer, file_answer, answer_to}
 
 -- ---- the values
 
-pub values-none : (s : List ℕ) → [] ≡ words_in s 0
-unfolding words_in
-values-none s = refl
+beyond : (s : List ℕ) (i k : ℕ) → get_or (drop 12 s) (i + k) 0 ≡ get_or s (12 + i + k) 0
+beyond s i k = get_or-drop 12 s (i + k) 0 ∙ ap (λ (j : ℕ). get_or s j 0) (omega arith)
 
-pub values-more : (s : List ℕ) (buf : List Word) (i : ℕ) {x : Word} → i < length buf → take i buf ≡ words_in s i → x ≡ constant_in s (12 + 4 * i)
-    → take (i + 1) (set buf i x) ≡ words_in s (i + 1)
-unfolding words_in
-values-more s buf i {x} h e k = rw add-one (take-suc-set buf i x h ∙ rw (e, k))
+values-are : (s : List ℕ) (n : ℕ) → constants_in (drop 12 s) n ≡ words_in s n
+unfolding words_in constants_in
+values-are s zero = refl
+values-are s (suc n) =
+    rw (values-are s n, get_or-drop 12 s (4 * n) 0, beyond s (4 * n) 1, beyond s (4 * n) 2, beyond s (4 * n) 3) refl
+
+-- as the code cuts off the numbers
+pub values-read : (s : List ℕ) {m n : ℕ} → m ≡ n → constants_in (take (length s - 12) (drop 12 s)) m ≡ words_in s n
+values-read s {m} h =
+    let all : take (length s - 12) (drop 12 s) ≡ drop 12 s = take_all (length s - 12) (drop 12 s) (omega (arith, length-drop 12 s)) in
+    ap (λ l. constants_in l m) all ∙ values-are s m ∙ ap (words_in s) h
 
 -- ---- a run's reply
 
 no_refusal : (t : Bool) (k p : ℕ) {r : Reply} {most : ℕ} → cond t (refusal k p) r ≡ Done most → (t ≡ false) × (r ≡ Done most)
 no_refusal true k p e = let z : ◌≡◌ {A = ℕ} 0 1 = cc in absurd (omega arith)
 no_refusal false k p e = (refl, e)
-
-neither : (a b : Bool) → (a || b) ≡ false → (a ≡ false) × (b ≡ false)
-neither true b e = let z : ◌≡◌ {A = ℕ} 0 1 = cc in absurd (omega arith)
-neither false b e = (refl, e)
 
 -- ---- the text of records
 
@@ -92,12 +94,6 @@ module _ {b : Batch} {old work new work' : List Word} {r : Reply} (ran : Ran b o
 
 -- ---- the answer of a plan
 
--- an input that holds a batch has three numbers, and no more values than there may be
-pub batch-size : (size : ℕ) → no_batch size ≡ false → (12 ≤ size) × (size ≤ most_input)
-batch-size size e =
-    let p = neither (ltb size 12) _ e in
-    (ltb-false size 12 p.0, ltb-false most_input size (neither (ltb most_input size) _ p.1).0)
-
 module _ (plan s : List ℕ) where
   pub cut_text : no_batch (length s) ≡ true → refusal_text 13 0 ≡ input_answer plan s
   unfolding input_answer
@@ -106,11 +102,6 @@ module _ (plan s : List ℕ) where
   pub whole-text : no_batch (length s) ≡ false → batch_answer (batch_in plan s) ≡ input_answer plan s
   unfolding input_answer
   whole-text e = rw e
-
-  -- the same batch, from its parts
-  pub batch-text : {values : List Word} {rows budget quota : ℕ} → rows ≡ number_in s 0 → values ≡ words_in s ((length s - 12) / 4) → budget ≡ number_in s 4
-      → quota ≡ number_in s 8 → batch_answer (record { plan = plan; rows = rows; values = values; budgets = common budget; quota = quota }) ≡ batch_answer (batch_in plan s)
-  batch-text r v b q = rw (r, v, b, q)
 
 -- ---- the answer of a file
 

@@ -26,21 +26,7 @@ fn number(input: &[u8], at: usize) -> usize
     requires { at + 4 ≤ length input.now }
     ensures { result ≡ number_in input.now at }
 {
-    values::joined(input[at], input[at + 1], input[at + 2], input[at + 3]) as usize
-}
-
-// The first n values of the input, to the start of a buffer.
-fn put_values(input: &[u8], values: &mut [i32], n: usize)
-    requires { (12 + 4 * n ≤ length input.now) × (n ≤ length values.old) }
-    ensures { take n values.new ≡ words_in input.now n }
-{
-    let mut i = 0;
-    while i < n {
-        let at = 12 + 4 * i;
-        let x = values::constant(input, at);
-        values[i] = x;
-        i += 1;
-    }
+    u32::from_le_bytes([input[at], input[at + 1], input[at + 2], input[at + 3]]) as usize
 }
 
 // The answer to a batch.
@@ -69,13 +55,7 @@ fn put_batch(
 fn is_cut(size: usize) -> bool
     ensures { result ≡ no_batch size }
 {
-    if size < 12 {
-        return true;
-    }
-    if MOST_INPUT < size {
-        return true;
-    }
-    size % 4 != 0
+    size < 12 || MOST_INPUT < size || size % 4 != 0
 }
 
 // The answer of a plan to an input that holds a batch.
@@ -86,12 +66,13 @@ fn put_whole(plan: &[u8], input: &[u8], out: &mut [u8]) -> usize
     ensures out_after { take result out.new ≡ batch_answer (batch_in plan.now input.now) }
 {
     let n = (input.len() - 12) / 4;
-    let mut values = [0i32; MOST_VALUES];
-    put_values(input, &mut values, n);
+    let mut room = [0i32; MOST_VALUES];
+    let values = &mut room[..n];
+    values::constants(&input[12..], values);
     let rows = number(input, 0);
     let budget = number(input, 4);
     let quota = number(input, 8);
-    put_batch(plan, rows, &values[..n], budget, quota, out)
+    put_batch(plan, rows, values, budget, quota, out)
 }
 
 // The answer of a plan to any input.
