@@ -1,47 +1,37 @@
--- Laws of the text of words, one more at a time.
-use Rattle.std.proofs.Common.{ℕ, zero, suc, ◌+◌, ◌<◌, ◌≤◌, ◌≡◌, sym, ap, ◌∙◌, List, [], ◌∷◌, ◌++◌, length, take, get_or, pos, append_assoc, append-nil, subst, arith}
+-- Laws of the texts of bytes and words, one more at a time.
+use Rattle.std.proofs.Common.{ℕ, ◌+◌, ◌<◌, ◌≡◌, sym, List, [], ◌∷◌, ◌++◌, length, take, drop, get_or, pos, Some, IfSome, append_assoc, append-nil, add-one, subst, arith}
 use Rattle.std.proofs.lemmas.List.{take_more}
+use Rattle.std.proofs.lemmas.List.Concat.{flat_map-append}
 use Rattle.std.specs.Io.KnownBytes.{Appends}
 use Rattle.std.proofs.KnownBytes.{Appends-trans}
 use Rattle.std.specs.declared.option.Option.{Option}
 use Rattle.std.specs.Fmt.{signed_decimal}
 use Rattle.definitions.specs.Values.{Word}
-use Rattle.requests.specs.Text.{dash, space, more_words}
+use Rattle.requests.specs.Text.{space, byte_digits, hex_digits, more_words, words_text}
 
--- what the first i words of ws come to, or the dash
-abbrev pub so_far : List Word → ℕ → List ℕ
-so_far [] i = dash
-so_far (x ∷ xs) zero = []
-so_far (x ∷ xs) (suc i) = signed_decimal x ++ more_words (take i xs)
+-- ---- bytes
 
-more_words-append : (xs : List Word) (y : Word) → more_words (xs ++ y ∷ []) ≡ more_words xs ++ (space ++ signed_decimal y)
-unfolding more_words
-more_words-append [] y = ap (λ l. 32 ∷ l) (append-nil (signed_decimal y))
-more_words-append (x ∷ xs) y =
-    ap (λ l. 32 ∷ (signed_decimal x ++ l)) (more_words-append xs y) ∙ ap (λ l. 32 ∷ l) (sym (append_assoc (signed_decimal x) (more_words xs) (space ++ signed_decimal y)))
+hex-more : (xs : List ℕ) (i : ℕ) → i < length xs → hex_digits (take (i + 1) xs) ≡ hex_digits (take i xs) ++ byte_digits (get_or xs i 0)
+hex-more xs i h = rw (take_more xs i 0 h, flat_map-append)
 
--- the first word
-words-first : (ws : List Word) (i : ℕ) → i ≡ 0 → i < length ws → so_far ws i ++ signed_decimal (get_or ws i (pos 0)) ≡ so_far ws (i + 1)
-unfolding more_words
-words-first [] i z h = absurd (omega arith)
-words-first (x ∷ xs) zero z h = sym (append-nil (signed_decimal x))
-words-first (x ∷ xs) (suc i) z h = absurd (omega arith)
+pub hex-on : (a b d o : Option (List ℕ)) (xs : List ℕ) (i : ℕ) → i < length xs → o ≡ Some (byte_digits (get_or xs i 0)) → Appends a b (hex_digits (take i xs)) → IfSome o (Appends b d)
+    → Appends a d (hex_digits (take (i + 1) xs))
+hex-on a b d o xs i h e x y =
+    let z : Appends b d (byte_digits (get_or xs i 0)) = subst (λ (q : Option (List ℕ)). IfSome q (Appends b d)) e y in
+    subst (Appends a d) (sym (hex-more xs i h)) (Appends-trans a b d _ _ x z)
 
--- one more
-words-more : (ws : List Word) (i : ℕ) → 0 < i → i < length ws → (so_far ws i ++ space) ++ signed_decimal (get_or ws i (pos 0)) ≡ so_far ws (i + 1)
-words-more [] i p h = absurd (omega arith)
-words-more (x ∷ xs) zero p h = absurd (omega arith)
-words-more (x ∷ xs) (suc i) p h =
-    let y : Word = get_or xs i (pos 0) in
-    let next : suc (i + 1) ≡ suc i + 1 = omega arith in
-    let e : more_words (take (i + 1) xs) ≡ more_words (take i xs) ++ (space ++ signed_decimal y) = ap more_words (take_more xs i (pos 0) (omega arith)) ∙ more_words-append (take i xs) y in
-    append_assoc (signed_decimal x ++ more_words (take i xs)) space (signed_decimal y) ∙ append_assoc (signed_decimal x) (more_words (take i xs)) (space ++ signed_decimal y)
-    ∙ ap (λ l. signed_decimal x ++ l) (sym e) ∙ ap (so_far (x ∷ xs)) next
+-- ---- words
 
-pub words-begin : (a b d : Option (List ℕ)) (ws : List Word) (i : ℕ) → i ≤ 0 → i < length ws → Appends a b (so_far ws i) → Appends b d (signed_decimal (get_or ws i (pos 0)))
-    → Appends a d (so_far ws (i + 1))
-words-begin a b d ws i z h x y = let e : i ≡ 0 = omega arith in subst (Appends a d) (words-first ws i e h) (Appends-trans a b d _ _ x y)
+words-next : (xs : List Word) (i : ℕ) → i < length xs → more_words (take (i + 1) xs) ≡ more_words (take i xs) ++ (space ++ signed_decimal (get_or xs i (pos 0)))
+words-next xs i h = rw (take_more xs i (pos 0) h, flat_map-append, append-nil)
 
-pub words-step : (a b b' d : Option (List ℕ)) (ws : List Word) (i : ℕ) → 0 < i → i < length ws → Appends a b (so_far ws i) → Appends b b' space → Appends b' d (signed_decimal (get_or ws i (pos 0)))
-    → Appends a d (so_far ws (i + 1))
-words-step a b b' d ws i p h x y z = subst (Appends a d) (words-more ws i p h) (Appends-trans a b' d _ _ (Appends-trans a b b' _ _ x y) z)
+words-more : (ws : List Word) (i : ℕ) → i < length (drop 1 ws) → words_text (take (i + 1 + 1) ws) ≡ words_text (take (i + 1) ws) ++ (space ++ signed_decimal (get_or (drop 1 ws) i (pos 0)))
+words-more [] i h = absurd (omega arith)
+words-more (x ∷ xs) i h = rw (add-one (i + 1), words-next xs i h, add-one i) (sym (append_assoc (signed_decimal x) (more_words (take i xs)) (space ++ signed_decimal (get_or xs i (pos 0)))))
+
+pub words-on : (a b d : Option (List ℕ)) (ws others : List Word) (i : ℕ) → others ≡ drop 1 ws → i < length others → Appends a b (words_text (take (i + 1) ws)) → Appends b d (space ++ signed_decimal (get_or others i (pos 0)))
+    → Appends a d (words_text (take (i + 1 + 1) ws))
+words-on a b d ws others i e h x y =
+    let k : i < length (drop 1 ws) = subst (λ (l : List Word). i < length l) e h in
+    let z : Appends b d (space ++ signed_decimal (get_or (drop 1 ws) i (pos 0))) = subst (λ (l : List Word). Appends b d (space ++ signed_decimal (get_or l i (pos 0)))) e y in
+    subst (Appends a d) (sym (words-more ws i k)) (Appends-trans a b d _ _ x z)

@@ -31,9 +31,8 @@ hex_text [] = dash
 hex_text (x ∷ xs) = hex_digits (x ∷ xs)
 
 -- words that follow another: each after a space
-unfoldable pub more_words : List Word → List ℕ
-more_words [] = []
-more_words (x ∷ xs) = space ++ (signed_decimal x ++ more_words xs)
+abbrev pub more_words : List Word → List ℕ
+more_words xs = flat_map (λ x. space ++ signed_decimal x) xs
 
 -- all words with single spaces between them, or a dash
 abbrev pub words_text : List Word → List ℕ

@@ -1,11 +1,8 @@
--- `requests::output::words` is safe and ends, and has written what the words passed come to.
-use Rattle.std.proofs.Common.{◌-◌, ◌≤◌, length}
+-- `requests::output::words` has written the first word and those passed after it.
+use Rattle.std.proofs.Common.{◌+◌, ◌<◌, ◌≡◌, length, take, drop}
 use Rattle.std.specs.Io.KnownBytes.{Appends}
-use Rattle.requests.proofs.Texts.{so_far}
+use Rattle.requests.specs.Text.{words_text}
 use Rattle.requests.proofs.output.words.Given as goal
 
-abbrev pub invariant-loop-i : goal.invariant-loop-i
-invariant-loop-i g l = (l.i ≤ length l.ws) × Appends (g.W.Write.contents l.fn.to) (g.W.Write.contents l.to) (so_far l.ws l.i)
-
-abbrev pub decreases-loop-i : goal.decreases-loop-i
-decreases-loop-i g l = length l.ws - l.i
+abbrev pub invariant-loop-x : goal.invariant-loop-x
+invariant-loop-x g l = (0 < length l.ws) × (l.others ≡ drop 1 l.ws) × Appends (g.W.Write.contents l.fn.to) (g.W.Write.contents l.to) (words_text (take (l.x-index + 1) l.ws))
