@@ -1,5 +1,5 @@
 -- `requests::output::hex` writes the digits of each byte after the ones before it.
-use Rattle.std.proofs.Common.{◌≡◌, ◌<◌, Some, false, get_or, arith}
+use Rattle.std.proofs.Common.{◌≡◌, ◌<◌, Some, get_or, arith}
 use Rattle.std.proofs.lemmas.Fmt.{hex_byte}
 use Rattle.std.specs.Fmt.{styled_digits_output}
 use Rattle.requests.specs.Text.{byte_digits}
