@@ -3,13 +3,12 @@ use Prim.Native.Nat.{ℕ, zero, suc, ◌+◌, ◌-◌, ◌*◌, ◌≤◌}
 use mathlib.Core.Path.{◌≡◌, refl, sym, ap, ◌∙◌}
 use mathlib.Core.Bool.{Bool, true, false, cond}
 use mathlib.Core.List.{List, [], ◌∷◌, ◌++◌}
-use native.Mathlib.Numerals.{unary_clauses}
 use native.Mathlib.Omega.{arith}
 use lib.Dec.{ltb}
 use borrow.Author.Tests.{ltb-false}
 use lib.IntN.{pos}
 use lib.ListN.{length, take, drop, get_or, replicate}
-use Rattle.std.proofs.lemmas.List.{get_or-drop, take_all, length-drop}
+use Rattle.std.proofs.lemmas.List.{drop-replicate, get_or-drop, take_all, length-drop}
 use Rattle.values.specs.Words.{constants_in}
 use Rattle.definitions.specs.Values.{Word}
 use Rattle.definitions.specs.Grammar.{Got, got, refused}
@@ -71,11 +70,6 @@ read-zeros [] (suc m) (suc k) = read-zeros [] m k
 read-zeros (x ∷ xs) m zero = refl
 read-zeros (x ∷ xs) m (suc k) = read-zeros xs m k
 
-drop-zeros : (n m : ℕ) → drop n (replicate m (pos 0)) ≡ replicate (m - n) (pos 0)
-drop-zeros zero m = simp unary_clauses
-drop-zeros (suc n) zero = let e : 0 - suc n ≡ 0 = omega arith in rw e
-drop-zeros (suc n) (suc m) = simp unary_clauses (drop-zeros n m)
-
 -- ---- the answer to a batch, from what the run left
 module _ {b : Batch} {old work new work' : List Word} {r : Reply} (ran : Ran b old work r new work') (fits : length old ≡ result_room) (fits' : length work ≡ work_room) where
   reply-is : r ≡ run_reply b (planned b.plan) result_room work_room
@@ -85,7 +79,7 @@ module _ {b : Batch} {old work new work' : List Word} {r : Reply} (ran : Ran b o
   unfolding batch_answer ran_answer
   done-text most e m z =
       let records = records_in b (planned b.plan) in
-      let is : new ≡ records ++ replicate (m - length records) (pos 0) = ran.result ∙ rw (e, z, drop-zeros) in
+      let is : new ≡ records ++ replicate (m - length records) (pos 0) = ran.result ∙ rw (e, z, drop-replicate) in
       rw (← reply-is, e, is) (same_answer _ _ (read-zeros records (m - length records)) b.rows b.quota most)
 
   pub refused-text : (w : Refusal) → r ≡ Refused w → refusal_text w.number w.place ≡ batch_answer b

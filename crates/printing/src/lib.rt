@@ -1,7 +1,7 @@
 // The text of a batch's result and of a refusal.
 #![tactic(auto)]
 
-ghost use Rattle.std.specs.Prelude.{◌≡◌, ◌+◌, ◌*◌, ◌≤◌, ◌<◌, ◌++◌, nat_abs, length, take};
+ghost use Rattle.std.specs.Prelude.{◌≡◌, ◌+◌, ◌*◌, ◌≤◌, ◌<◌, ◌++◌, length, take};
 ghost use Rattle.definitions.specs.Finder.{most_rows, most_quota};
 ghost use Rattle.io.specs.Counts.{IsPrefixLen};
 ghost use Rattle.printing.specs.Text.{shown, record_at, line_text, lines_text, line_room, answer_text, refusal_text, text_room};
@@ -9,13 +9,6 @@ ghost use Rattle.printing.specs.Writing.{Appends};
 
 use itoa::{Buffer, Integer};
 use layouts::{record_at, record_size};
-
-// How far x lies from 0.
-pub fn magnitude(x: i32) -> u64
-    ensures { result ≡ nat_abs x }
-{
-    x.unsigned_abs() as u64
-}
 
 // What is written of a text: the first `len` bytes of a buffer.
 #[derive(Drop)]
