@@ -71,12 +71,11 @@ pub enum Reply {
     Refused(Refusal),
 }
 
-// Where a row's part lies: from a word of the result buffer on, from one of the working buffer on, or nowhere.
-#[derive(Drop)]
+// Where a row's part lies: from a word of the result buffer on, or from one of the working buffer on.
+#[derive(Clone, Copy, Debug, PartialEq, Eq)]
 pub enum Place {
     InResult(usize),
     InWork(usize),
-    Nowhere,
 }
 
 // ---- the ends of a row

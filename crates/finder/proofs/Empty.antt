@@ -5,17 +5,18 @@ use native.Mathlib.Omega.{arith}
 use mathlib.Core.Bool.{Bool, true, false}
 use mathlib.Core.List.{List, []}
 use lib.IntN.{pos, negsuc}
-use lib.ListN.{length, take, drop, get_or, length-take, length-drop}
-use lib.Dec.{eqb, leb}
+use lib.ListN.{length, get_or}
 use denote.Ref.{Bor}
 use mathlib.Core.Logic.{⊎_elim}
-use borrow.Author.Tests.{eqb-true, eqb-false, eq-eqb, leb-true, lt-ltb, le-leb}
+use borrow.Author.Tests.{eqb-true}
+use Rattle.std.proofs.lemmas.Grind.{common_steps}
 use Rattle.definitions.specs.Values.{Word}
 use Rattle.definitions.specs.Batch.{record_size, line_size}
-use Rattle.definitions.specs.Finder.{is_number, Part, is_line, line_index, found_in, most_rows, most_quota, most_columns}
-use Rattle.definitions.proofs.Tests.{and_parts, and_both, clash, not_so, less_or}
+use Rattle.definitions.specs.Finder.{is_number, Part, is_line, line_index, line_part, found_in, most_rows, most_quota, most_columns}
+use Rattle.definitions.proofs.Tests.{and_parts, less_or}
+use Rattle.layouts.proofs.Sizes.{item_in}
 use Rattle.finder.specs.Limits.{within}
-use Rattle.finder.proofs.Finds.{hit, is_within, found_none, found-line, found_record, line-found, line_lost}
+use Rattle.finder.proofs.Finds.{hit, line-whole}
 
 -- no second part meets the contract
 pub one-part : (result work : Bor (List Word)) (rows quota columns row : ℕ) (p p' : Part) → p ≡ found_in result work rows quota columns row → p' ≡ found_in result work rows quota columns row → p ≡ p'
@@ -37,29 +38,14 @@ pub data Missing (result work : List Word) (rows quota columns row : ℕ) : Type
 is-number : (x : Word) (n : ℕ) → is_number x n ≡ true → x ≡ pos n
 unfolding is_number
 is-number (pos a) n h = ap pos (eqb-true a n h)
-is-number (negsuc a) n h =
-    let z : ◌≡◌ {A = ℕ} 0 1 = cc in
-    absurd (omega arith)
-
-number_is : (x : Word) (n : ℕ) → x ≡ pos n → is_number x n ≡ true
-unfolding is_number
-number_is x n e = rw e (eq-eqb n n refl)
+is-number (negsuc a) n h = cc
 
 module _ (work : List Word) (w row : ℕ) where
   -- where the search ends at the last line, no line is one
   missed : (i n : ℕ) → i + n ≤ line_index work w row i n → (j : ℕ) → i ≤ j → j < i + n → is_line work w row j ≡ true → ⊥
   unfolding line_index
   missed i zero h j l u t = omega arith
-  missed i (suc n) h j l u t = go (is_line work w row i) refl (eqb i j) refl (λ p l. missed (i + 1) n p j l (omega arith) t)
-    where
-      go : (b : Bool) → is_line work w row i ≡ b → (d : Bool) → eqb i j ≡ d → (i + 1 + n ≤ line_index work w row (i + 1) n → i + 1 ≤ j → ⊥) → ⊥
-      go true e d ed r = omega (arith, rw e at h)
-      go false e true ed r = clash (rw (eqb-true i j ed) t) e
-      go false e false ed r = r (omega (arith, rw e at h)) (omega (arith, eqb-false i j ed))
-
--- a part that lies in its buffer is not empty
-not_empty : (d : List Word) (a n : ℕ) → a + n ≤ length d → 0 < n → take n (drop a d) ≡ [] → ⊥
-not_empty d a n h p e = omega (arith, simp (length-take, length-drop) at (ap length e))
+  missed i (suc n) h j l u t = grind (arith, common_steps, missed (i + 1) n)
 
 module _ (result work : Bor (List Word)) (rows quota columns row : ℕ) where
   abbrev status : Word
@@ -73,57 +59,54 @@ module _ (result work : Bor (List Word)) (rows quota columns row : ℕ) where
 
   -- ---- each case gives an empty part
 
-  outside : (within rows quota columns row (length result.now) ≡ true → ⊥) → found ≡ []
-  outside h = ap (λ (p : Part). p.1) (sym (found_none result work rows quota columns row (not_so _ h)))
+  no_line_lem : status ≡ pos 0 → rows ≤ index → found ≡ []
+  unfolding found_in line_part is_number
+  no_line_lem s h = grind (arith, common_steps)
 
-  no_line_lem : is_number status 0 ≡ true → rows ≤ index → found ≡ []
-  no_line_lem s h = go (within rows quota columns row (length result.now)) refl
-    where
-      go : (b : Bool) → within rows quota columns row (length result.now) ≡ b → found ≡ []
-      go true e = ap (λ (p : Part). p.1) (sym (line_lost work rows (line_size columns) row index refl h ∙ found-line result work rows quota columns row e s))
-      go false e = outside (λ t. clash t e)
+  missing : ((i : ℕ) → i < rows → i * line_size columns + line_size columns ≤ length work.now → get_or work.now (i * line_size columns) (pos 0) ≡ pos row → ⊥) → rows ≤ index
+  missing h =
+      ⊎_elim
+      (λ l. let t = hit work.now (line_size columns) row 0 rows (omega arith) in absurd (h index l (line-whole work.now (line_size columns) row rows l) (is-number _ row (and_parts _ _ t).1)))
+      (λ l. l)
+      (less_or index rows)
 
   pub empty_if : Missing result.now work.now rows quota columns row → found ≡ []
-  empty_if (not_below h) = outside (λ t. omega (arith, (is_within rows quota columns row _ _ refl t).one))
-  empty_if (many_rows h) = outside (λ t. omega (arith, (is_within rows quota columns row _ _ refl t).rows'))
-  empty_if (high_quota h) = outside (λ t. omega (arith, (is_within rows quota columns row _ _ refl t).quota'))
-  empty_if (many_columns h) = outside (λ t. omega (arith, (is_within rows quota columns row _ _ refl t).columns'))
-  empty_if (short_result h) = outside (λ t. omega (arith, (is_within rows quota columns row _ _ refl t).held))
-  empty_if (no_line s h) = no_line_lem (number_is status 0 s) (⊎_elim (λ l. absurd (seen l)) (λ l. l) (less_or index rows))
-    where
-      seen : index < rows → ⊥
-      seen l =
-          let t = and_parts (leb (index * line_size columns + line_size columns) (length work.now)) _ (hit work.now (line_size columns) row 0 rows (omega arith)) in
-          h index l (leb-true _ _ t.0) (is-number _ row t.1)
+  unfolding found_in
+  empty_if (not_below h) = grind (arith, common_steps)
+  empty_if (many_rows h) = grind (arith, common_steps)
+  empty_if (high_quota h) = grind (arith, common_steps)
+  empty_if (many_columns h) = grind (arith, common_steps)
+  empty_if (short_result h) = grind (arith, common_steps)
+  empty_if (no_line s h) = no_line_lem s (missing h)
 
   -- ---- and there is no other
 
-  -- what stands in a limit's way
-  broken : within rows quota columns row (length result.now) ≡ false → Missing result.now work.now rows quota columns row
+  -- a part that is within the limits and is found is not empty
+  record_there : within rows quota columns row (length result.now) ≡ true → is_number status 0 ≡ false → found ≡ [] → ⊥
+  unfolding within found_in line_part
+  record_there w s e = grind (arith, common_steps, item_in row rows (record_size quota))
+
+  line_there : within rows quota columns row (length result.now) ≡ true → status ≡ pos 0 → index < rows → found ≡ [] → ⊥
+  unfolding within found_in line_part is_number
+  line_there w s l e = grind (arith, common_steps, line-whole)
+
+  kept : within rows quota columns row (length result.now) ≡ true → found ≡ [] → Missing result.now work.now rows quota columns row
+  unfolding is_number
+  kept w e = go (is_number status 0) refl
+    where
+      go : (b : Bool) → is_number status 0 ≡ b → Missing result.now work.now rows quota columns row
+      go false s = absurd (record_there w s e)
+      go true s =
+          let z = is-number status 0 s in
+          ⊎_elim (λ l. absurd (line_there w z l e)) (λ l. no_line z (λ i h whole is. missed work.now (line_size columns) row 0 rows (omega arith) i (omega arith) (omega arith) (grind (arith, common_steps)))) (less_or index rows)
+
+  within_all : row < rows → rows ≤ most_rows → quota ≤ most_quota → columns ≤ most_columns → rows * record_size quota ≤ length result.now → within rows quota columns row (length result.now) ≡ true
   unfolding within
-  broken e =
-      ⊎_elim (λ h1. ⊎_elim (λ h. many_rows h) (λ h2. ⊎_elim (λ h. high_quota h) (λ h3. ⊎_elim (λ h. many_columns h) (λ h4. ⊎_elim (λ h. short_result h)
-      (λ h5. absurd (clash {x = within rows quota columns row (length result.now)} (rw (lt-ltb row rows h1, le-leb rows most_rows h2, le-leb quota most_quota h3, le-leb columns most_columns h4, le-leb (rows * record_size quota) (length result.now) h5)) e))
+  within_all a b c d f = grind (arith, common_steps)
+
+  pub only_if : found ≡ [] → Missing result.now work.now rows quota columns row
+  only_if e =
+      ⊎_elim (λ a. ⊎_elim (λ h. many_rows h) (λ b. ⊎_elim (λ h. high_quota h) (λ c. ⊎_elim (λ h. many_columns h) (λ d. ⊎_elim (λ h. short_result h) (λ f. kept (within_all a b c d f) e)
       (less_or (length result.now) (rows * record_size quota))) (less_or most_columns columns)) (less_or most_quota quota)) (less_or most_rows rows))
       (λ h. not_below h)
       (less_or row rows)
-
-  pub only_if : found ≡ [] → Missing result.now work.now rows quota columns row
-  only_if e = go (within rows quota columns row (length result.now)) refl
-    where
-      here : (b : Bool) → is_number status 0 ≡ b → within rows quota columns row (length result.now) ≡ true → Missing result.now work.now rows quota columns row
-      here true s w = ⊎_elim
-          (λ l. absurd (
-          let t = and_parts (leb (index * line_size columns + line_size columns) (length work.now)) _ (hit work.now (line_size columns) row 0 rows (omega arith)) in
-          not_empty work.now (index * line_size columns) (line_size columns) (leb-true _ _ t.0) (omega arith)
-          (ap (λ (p : Part). p.1) (line-found work rows (line_size columns) row index refl l ∙ found-line result work rows quota columns row w s) ∙ e)
-          ))
-          (λ l. no_line (is-number status 0 s) (λ i h whole is. missed work.now (line_size columns) row 0 rows (omega arith) i (omega arith) (omega arith) (and_both _ _ (le-leb _ _ whole) (number_is _ row is))))
-          (less_or index rows)
-      here false s w =
-          let k = is_within rows quota columns row _ _ refl w in
-          absurd (not_empty result.now (row * record_size quota) (record_size quota) (omega arith) (omega arith) (ap (λ (p : Part). p.1) (found_record result work rows quota columns row w s) ∙ e))
-
-      go : (b : Bool) → within rows quota columns row (length result.now) ≡ b → Missing result.now work.now rows quota columns row
-      go true w = here (is_number status 0) refl w
-      go false w = broken w

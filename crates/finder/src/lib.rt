@@ -1,7 +1,7 @@
 // The finder: where a row stands in the caller's two buffers.
-#![tactic(auto)]
+#![tactic(auto, unfolding(crate::specs::Limits::within, crate::specs::Place::place_in, crate::specs::Place::line_place, definitions::specs::Finder::found_in, definitions::specs::Finder::line_part))]
 
-ghost use Rattle.std.specs.Prelude.{◌≡◌, ◌≤◌, ◌<◌};
+ghost use Rattle.std.specs.Prelude.{◌≡◌, ◌≤◌, ◌<◌, MatchOption};
 ghost use Rattle.definitions.specs.Batch.{line_size};
 ghost use Rattle.definitions.specs.Finder.{is_number, is_line, line_index, found_in, most_rows, most_columns};
 ghost use Rattle.finder.specs.Limits.{within};
@@ -15,8 +15,7 @@ fn is_number(x: i32, n: usize) -> bool
     requires { n < most_rows }
     ensures { result ≡ is_number x n }
 {
-    let y = n as i32;
-    x == y
+    x == n as i32
 }
 
 // Whether line i is whole and has this row's number.
@@ -25,44 +24,27 @@ fn is_line(work: &[i32], size: usize, i: usize, row: usize) -> bool
     ensures { result ≡ is_line work.now size row i }
 {
     let at = i * size;
-    if work.len() < at + size {
-        return false;
-    }
-    is_number(work[at], row)
+    work.get(at..at + size)
+        .is_some_and(|line| is_number(line[0], row))
 }
 
-// The first whole line with this row's number, or rows.
-fn line_index(work: &[i32], rows: usize, size: usize, row: usize) -> usize
+// The first whole line with this row's number.
+fn line_index(work: &[i32], rows: usize, size: usize, row: usize) -> Option<usize>
     requires { (rows ≤ most_rows) × ((2 ≤ size) × ((size ≤ line_size most_columns) × (row < most_rows))) }
-    ensures { result ≡ line_index work.now size row 0 rows }
+    ensures { MatchOption result (line_index work.now size row 0 rows ≡ rows) (λ i. (i ≡ line_index work.now size row 0 rows) × (i < rows)) }
 {
-    let mut i: usize = 0;
-    while i < rows {
-        if is_line(work, size, i, row) {
-            return i;
-        }
-        i += 1;
-    }
-    rows
+    (0..rows).find(|i| is_line(work, size, *i, row))
 }
 
 // Whether the numbers keep to their limits and all records fit into so many words.
 fn allowed(rows: usize, quota: usize, columns: usize, row: usize, words: usize) -> bool
     ensures { result ≡ within rows quota columns row words }
 {
-    if rows <= row {
-        return false;
-    }
-    if ROWS < rows {
-        return false;
-    }
-    if QUOTA < quota {
-        return false;
-    }
-    if VARIABLES < columns {
-        return false;
-    }
-    record_at(rows, quota) <= words
+    row < rows
+        && rows <= ROWS
+        && quota <= QUOTA
+        && columns <= VARIABLES
+        && record_at(rows, quota) <= words
 }
 
 // Where a row's record lies, or its line while its status is 0.
@@ -73,22 +55,20 @@ pub fn place_in(
     quota: usize,
     columns: usize,
     row: usize,
-) -> Place
+) -> Option<Place>
     ensures { result ≡ place_in res.now work.now rows quota columns row }
 {
-    if allowed(rows, quota, columns, row, res.len()) {
-        let at = record_at(row, quota);
-        if is_number(res[at], 0) {
-            let size = line_size(columns);
-            let i = line_index(work, rows, size, row);
-            if i < rows {
-                return Place::InWork(i * size);
-            }
-            return Place::Nowhere;
-        }
-        return Place::InResult(at);
+    if !allowed(rows, quota, columns, row, res.len()) {
+        return None;
     }
-    Place::Nowhere
+    let at = record_at(row, quota);
+    if is_number(res[at], 0) {
+        let size = line_size(columns);
+        let i = line_index(work, rows, size, row)?;
+        Some(Place::InWork(i * size))
+    } else {
+        Some(Place::InResult(at))
+    }
 }
 
 // A row's record, or its line while its status is 0, or an empty part: the caller's own words.
@@ -102,22 +82,11 @@ pub fn find<'a>(
 ) -> &'a [i32]
     ensures { (result.ref_ptr, result.now) ≡ found_in res.entry work.entry rows quota columns row }
 {
-    let place = place_in(res, work, rows, quota, columns, row);
-    match place {
-        Place::InResult(at) => {
-            let end = at + record_size(quota);
-            return &res[at..end];
-        }
-        Place::InWork(at) => {
-            let end = at + line_size(columns);
-            return &work[at..end];
-        }
-        Place::Nowhere => {
-            // within the limits it is a line that is missing
-            if allowed(rows, quota, columns, row, res.len()) {
-                return &work[0..0];
-            }
-            return &res[0..0];
-        }
+    match place_in(res, work, rows, quota, columns, row) {
+        Some(Place::InResult(at)) => &res[at..at + record_size(quota)],
+        Some(Place::InWork(at)) => &work[at..at + line_size(columns)],
+        // within the limits it is a line that is missing
+        None if allowed(rows, quota, columns, row, res.len()) => &work[..0],
+        None => &res[..0],
     }
 }

@@ -126,14 +126,15 @@ pub extern "C" fn tap_run_each(
 }
 
 // A place in 64 bits.
-fn pack_place(p: Place) -> u64
+#[tactic(auto, unfolding(crate::specs::Place::first_word, crate::specs::Place::place_word))]
+fn pack_place(p: Option<Place>) -> u64
     requires { first_word p < half }
     ensures { result ≡ place_word p }
 {
     match p {
-        Place::InResult(at) => HALF + at as u64,
-        Place::InWork(at) => 2 * HALF + at as u64,
-        Place::Nowhere => 0,
+        Some(Place::InResult(at)) => HALF + at as u64,
+        Some(Place::InWork(at)) => 2 * HALF + at as u64,
+        None => 0,
     }
 }
 

@@ -1,22 +1,13 @@
--- The search: the answer from line 0 on is the answer from line i on.
-use native.Mathlib.Omega.{arith}
-use Rattle.finder.proofs.Finds.{line-hit, line_miss, line-none}
+-- The search: the first line that passes, or none.
+use Rattle.std.proofs.Common.{rules, ◌≡◌, true, false}
+use borrow.Author.Tests.{tests}
+use Rattle.std.proofs.lemmas.Iterator.{first_from_Range}
+use Rattle.definitions.specs.Finder.{is_line}
+use Rattle.finder.proofs.Finds.{index-is}
 use Rattle.finder.proofs.line_index.Goals as goal
-
-pub returns-then-is_line : goal.returns-then-is_line
-returns-then-is_line c =
-    let l = c.loop-i in
-    let a = c.args in
-    line-hit a.work.now a.size a.row a.rows l.i l.invariant.1 (omega arith) c.is_line.result c.is_line.ensures c.if-is_line.true
-
-pub loop-i-preserved : goal.loop-i-preserved
-loop-i-preserved c =
-    let l = c.loop-i in
-    let a = c.args in
-    (omega arith, line_miss a.work.now a.size a.row a.rows l.i l.invariant.1 (omega arith) c.is_line.result c.is_line.ensures c.if-is_line.false)
 
 pub returns : goal.returns
 returns c =
-    let l = c.loop-i in
     let a = c.args in
-    line-none a.work.now a.size a.row a.rows l.i l.invariant.1 (omega arith)
+    index-is a.work.now a.size a.row a.rows c.find.result
+    (first_from_Range _ _ _ _ (λ i. is_line a.work.now a.size a.row i ≡ true) (λ i. is_line a.work.now a.size a.row i ≡ false) c.find.ensures.ran (λ x q k. search (rules, tests)) (λ x q k. search (rules, tests)))

@@ -5,4 +5,4 @@ use Rattle.tap.proofs.tap_find.Goals as goal
 pub pack_place-requires : goal.pack_place-requires
 pack_place-requires c =
     let a = c.args in
-    place-low a.res a.work a.rows a.quota a.columns a.row c.place_in-p.result c.place_in-p.ensures
+    rw c.place_in-p.ensures (place-low a.res.now a.work.now a.rows a.quota a.columns a.row)
