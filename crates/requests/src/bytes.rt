@@ -1,54 +1,23 @@
 // Kinds 1 to 3, read, write and compile: from bytes to bytes.
-ghost use Rattle.std.specs.Prelude.{◌≤◌, length};
-
-use crate::input::MOST;
-use crate::{input, output, parts};
+use crate::input::{MOST, Unserved};
+use crate::{input, output};
 use definitions::Reply;
-use std::io;
 use std::io::{Read, Write};
 
-pub fn answered<R: Read, W: Write>(kind: usize, from: &mut R, to: &mut W) -> io::Result<bool> {
-    let room = input::next_number(from)?;
-    let length = input::next_number(from)?;
-    if MOST < room {
-        return Ok(false);
-    }
-    if MOST < length {
-        return Ok(false);
-    }
-    let mut src = [0u8; 8192];
-    let mut out = [0xAAu8; 8192];
-    answered_in(
-        kind,
-        parts::bytes(&mut src, length),
-        parts::bytes(&mut out, room),
-        from,
-        to,
-    )
-}
-
-fn answered_in<R: Read, W: Write>(
-    kind: usize,
-    src: &mut [u8],
-    out: &mut [u8],
+pub fn answer<F: FnOnce(&[u8], &mut [u8]) -> Reply, R: Read, W: Write>(
+    call: F,
     from: &mut R,
     to: &mut W,
-) -> io::Result<bool>
-    requires { length out.old ≤ 8192 }
+) -> Result<(), Unserved>
+    requires { F.IsAlwaysCallable call }
 {
-    if !input::fill(from, src)? {
-        return Ok(false);
-    }
-    output::reply(to, reply(kind, src, out))?;
-    output::text(to, b" ")?;
+    let room = input::size(from)?;
+    let mut src = [0u8; MOST];
+    let src = input::part(from, &mut src, input::fill)?;
+    let mut out = [0xAAu8; MOST];
+    let out = &mut out[..room];
+    output::reply(to, call(src, out))?;
+    to.write_all(b" ")?;
     output::hex(to, out)?;
-    Ok(true)
-}
-
-fn reply(kind: usize, src: &[u8], out: &mut [u8]) -> Reply {
-    match kind {
-        1 => rules::read(src, out),
-        2 => rules::write(src, out),
-        _ => plans::compile(src, out),
-    }
+    Ok(())
 }

@@ -1,80 +1,17 @@
 // Kind 5, find: the part of a result buffer or of a working buffer.
-ghost use Rattle.std.specs.Prelude.{◌≤◌, length};
-
-use crate::input::MOST;
-use crate::{input, output, parts};
-use std::io;
+use crate::input::{MOST, Unserved};
+use crate::{input, output};
 use std::io::{Read, Write};
 
-// The numbers of a request.
-#[derive(Drop)]
-struct Find {
-    rows: usize,
-    quota: usize,
-    columns: usize,
-    row: usize,
-}
-
-pub fn answered<R: Read, W: Write>(from: &mut R, to: &mut W) -> io::Result<bool> {
-    let rows = input::next_number(from)?;
-    let quota = input::next_number(from)?;
-    let columns = input::next_number(from)?;
-    let row = input::next_number(from)?;
-    with_numbers(
-        Find {
-            rows: rows,
-            quota: quota,
-            columns: columns,
-            row: row,
-        },
-        from,
-        to,
-    )
-}
-
-fn with_numbers<R: Read, W: Write>(find: Find, from: &mut R, to: &mut W) -> io::Result<bool> {
-    let count = input::next_number(from)?;
-    if MOST < count {
-        return Ok(false);
-    }
-    let mut result = [0i32; 8192];
-    with_result(find, parts::words(&mut result, count), from, to)
-}
-
-fn with_result<R: Read, W: Write>(
-    find: Find,
-    res: &mut [i32],
-    from: &mut R,
-    to: &mut W,
-) -> io::Result<bool>
-    requires { length res.old ≤ 8192 }
-{
-    if !input::fill_words(from, res)? {
-        return Ok(false);
-    }
-    let count = input::next_number(from)?;
-    if MOST < count {
-        return Ok(false);
-    }
-    let mut work = [0i32; 8192];
-    with_work(find, res, parts::words(&mut work, count), from, to)
-}
-
-fn with_work<R: Read, W: Write>(
-    find: Find,
-    res: &[i32],
-    work: &mut [i32],
-    from: &mut R,
-    to: &mut W,
-) -> io::Result<bool>
-    requires { length work.old ≤ 8192 }
-{
-    if !input::fill_words(from, work)? {
-        return Ok(false);
-    }
-    output::words(
-        to,
-        finder::find(res, work, find.rows, find.quota, find.columns, find.row),
-    )?;
-    Ok(true)
+pub fn answer<R: Read, W: Write>(from: &mut R, to: &mut W) -> Result<(), Unserved> {
+    let rows = input::number(from)? as usize;
+    let quota = input::number(from)? as usize;
+    let columns = input::number(from)? as usize;
+    let row = input::number(from)? as usize;
+    let mut res = [0i32; MOST];
+    let res = input::part(from, &mut res, input::fill_words)?;
+    let mut work = [0i32; MOST];
+    let work = input::part(from, &mut work, input::fill_words)?;
+    output::words(to, finder::find(res, work, rows, quota, columns, row))?;
+    Ok(())
 }

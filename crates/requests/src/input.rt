@@ -1,9 +1,10 @@
 // What a request holds, read from the input.
-ghost use Rattle.std.specs.Prelude.{◌≡◌, ◌*◌, ◌≤◌, ◌<◌, true, leb, length, take, IfOk, OnOk, IfSome};
+ghost use Rattle.std.specs.Prelude.{◌≡◌, ◌*◌, ◌≤◌, ◌<◌, length, take, IfOk, OnOk, IfSome, IsErrOf};
 ghost use Rattle.inputs.specs.Reads.{Skips};
-ghost use Rattle.requests.specs.Parts.{number_of, first_words, first_numbers};
+ghost use Rattle.values.specs.Words.{constants_in};
+ghost use Rattle.requests.specs.Parts.{number_in, number_of, IsCut, first_numbers};
+ghost use Rattle.requests.specs.declared.input.Unserved.TheVariants.{Io, NoRequest};
 
-use crate::parts;
 use inputs::read_full;
 use std::io;
 use std::io::Read;
@@ -11,90 +12,107 @@ use std::io::Read;
 // The most bytes or words that a part of a request has.
 pub const MOST: usize = 8192;
 
-// In the place of a number: the input ends before it, or inside it. No request is whole then, and each later number is END.
-pub const END: usize = 4294967296;
+// Why a request is not served: reading or printing failed, or there is no such kind, the request is cut short, or a part of it is too long.
+#[derive(Drop)]
+pub enum Unserved {
+    Io(io::Error),
+    NoRequest,
+}
 
-pub const CUT: usize = 4294967297;
+impl From<io::Error> for Unserved {
+    ghost from_gives = { λ e r. r ≡ Io e };
 
-// The next number of four bytes, or END or CUT, which lie past every limit.
-pub fn next_number<R: Read>(from: &mut R) -> io::Result<usize>
+    fn from(e: io::Error) -> Unserved {
+        Unserved::Io(e)
+    }
+}
+
+// The next number of four bytes, or None where the input ends before it.
+pub fn next_number<R: Read>(from: &mut R) -> Result<Option<u32>, Unserved>
     ensures value { IfOk result (λ n. IfSome (R.remaining from.old) (λ xs. n ≡ number_of xs)) }
-    ensures whole { IfOk result (λ n. IfSome (R.remaining from.old) (λ xs. 4 ≤ length xs → n < 4294967296)) }
+    ensures whole { OnOk result (IfSome (R.remaining from.old) (λ xs. ¬ IsCut xs)) }
+    ensures cut { IsErrOf result NoRequest → IfSome (R.remaining from.old) IsCut }
     ensures rest { OnOk result (Skips 4 (R.remaining from.old) (R.remaining from.new)) }
 {
     let mut b = [0u8; 4];
-    let n = read_full(from, &mut b)?;
-    if n == 0 {
-        return Ok(END);
+    match read_full(from, &mut b)? {
+        0 => Ok(None),
+        4 => Ok(Some(u32::from_le_bytes(b))),
+        _ => Err(Unserved::NoRequest),
     }
-    if n < 4 {
-        return Ok(CUT);
-    }
-    Ok(values::joined(b[0], b[1], b[2], b[3]) as usize)
 }
 
-// Fills buf with numbers, and answers whether the input went so far.
-pub fn fill_numbers<R: Read>(from: &mut R, buf: &mut [u32]) -> io::Result<bool>
-    ensures value { IfOk result (λ ok. IfSome (R.remaining from.old) (λ xs. ok ≡ leb (4 * length buf.old) (length xs))) }
-    ensures numbers { IfOk result (λ ok. ok ≡ true → IfSome (R.remaining from.old) (λ xs. buf.new ≡ first_numbers xs (length buf.old))) }
-    ensures rest { IfOk result (λ ok. ok ≡ true → Skips (4 * length buf.old) (R.remaining from.old) (R.remaining from.new)) }
+// The next number of a request.
+pub fn number<R: Read>(from: &mut R) -> Result<u32, Unserved>
+    ensures value { IfOk result (λ n. IfSome (R.remaining from.old) (λ xs. (4 ≤ length xs) × (n ≡ number_in xs))) }
+    ensures cut { IsErrOf result NoRequest → IfSome (R.remaining from.old) (λ xs. length xs < 4) }
+    ensures rest { OnOk result (Skips 4 (R.remaining from.old) (R.remaining from.new)) }
 {
-    let mut i = 0;
-    while i < buf.len() {
-        let n = next_number(from)?;
-        if END <= n {
-            return Ok(false);
-        }
-        buf[i] = n as u32;
-        i += 1;
-    }
-    Ok(true)
+    next_number(from)?.ok_or(Unserved::NoRequest)
 }
 
-// Fills buf, and answers whether the input went so far.
-pub fn fill<R: Read>(from: &mut R, buf: &mut [u8]) -> io::Result<bool>
-    ensures value { IfOk result (λ ok. IfSome (R.remaining from.old) (λ xs. ok ≡ leb (length buf.old) (length xs))) }
-    ensures bytes { IfOk result (λ ok. ok ≡ true → IfSome (R.remaining from.old) (λ xs. buf.new ≡ take (length buf.old) xs)) }
+// How many elements a part of a request has.
+pub fn size<R: Read>(from: &mut R) -> Result<usize, Unserved>
+    ensures { IfOk result (λ n. n ≤ MOST) }
+{
+    let n = number(from)? as usize;
+    if MOST < n {
+        return Err(Unserved::NoRequest);
+    }
+    Ok(n)
+}
+
+// A part of a request: its size, and then so many elements, which `fill` reads to the start of buf.
+pub fn part<'a, T, R: Read, F: FnOnce(&mut R, &mut [T]) -> Result<(), Unserved>>(
+    from: &mut R,
+    buf: &'a mut [T; MOST],
+    fill: F,
+) -> Result<&'a [T], Unserved>
+    requires { (r : _) (b : _) → length b.now ≤ MOST → F.pre fill r b }
+{
+    let n = size(from)?;
+    let elements = &mut buf[..n];
+    fill(from, elements)?;
+    Ok(elements)
+}
+
+// Fills buf with bytes.
+pub fn fill<R: Read>(from: &mut R, buf: &mut [u8]) -> Result<(), Unserved>
+    ensures whole { OnOk result (IfSome (R.remaining from.old) (λ xs. length buf.old ≤ length xs)) }
+    ensures cut { IsErrOf result NoRequest → IfSome (R.remaining from.old) (λ xs. length xs < length buf.old) }
+    ensures bytes { OnOk result (IfSome (R.remaining from.old) (λ xs. buf.new ≡ take (length buf.old) xs)) }
     ensures rest { OnOk result (Skips (length buf.old) (R.remaining from.old) (R.remaining from.new)) }
 {
-    let n = read_full(from, buf)?;
-    Ok(n == buf.len())
+    if read_full(from, buf)? < buf.len() {
+        return Err(Unserved::NoRequest);
+    }
+    Ok(())
 }
 
-// Fills buf with words of four bytes, and answers whether the input went so far.
-pub fn fill_words<R: Read>(from: &mut R, buf: &mut [i32]) -> io::Result<bool>
-    requires { length buf.old ≤ 8192 }
-    ensures value { IfOk result (λ ok. IfSome (R.remaining from.old) (λ xs. ok ≡ leb (4 * length buf.old) (length xs))) }
-    ensures words { IfOk result (λ ok. ok ≡ true → IfSome (R.remaining from.old) (λ xs. buf.new ≡ first_words xs (length buf.old))) }
+// Fills buf with numbers.
+pub fn fill_numbers<R: Read>(from: &mut R, buf: &mut [u32]) -> Result<(), Unserved>
+    ensures whole { OnOk result (IfSome (R.remaining from.old) (λ xs. 4 * length buf.old ≤ length xs)) }
+    ensures cut { IsErrOf result NoRequest → IfSome (R.remaining from.old) (λ xs. length xs < 4 * length buf.old) }
+    ensures numbers { OnOk result (IfSome (R.remaining from.old) (λ xs. buf.new ≡ first_numbers xs (length buf.old))) }
     ensures rest { OnOk result (Skips (4 * length buf.old) (R.remaining from.old) (R.remaining from.new)) }
 {
-    let mut raw = [0u8; 32768];
-    let n = 4 * buf.len();
-    words_in(from, parts::bytes(&mut raw, n), buf)
-}
-
-// Fills raw, and buf with its words.
-fn words_in<R: Read>(from: &mut R, raw: &mut [u8], buf: &mut [i32]) -> io::Result<bool>
-    requires { 4 * length buf.old ≤ length raw.old }
-    ensures value { IfOk result (λ ok. IfSome (R.remaining from.old) (λ xs. ok ≡ leb (length raw.old) (length xs))) }
-    ensures words { IfOk result (λ ok. ok ≡ true → IfSome (R.remaining from.old) (λ xs. buf.new ≡ first_words xs (length buf.old))) }
-    ensures rest { OnOk result (Skips (length raw.old) (R.remaining from.old) (R.remaining from.new)) }
-{
-    let ok = fill(from, raw)?;
-    put_words(raw, buf);
-    Ok(ok)
-}
-
-// The words in raw, as many as buf has room for.
-fn put_words(raw: &[u8], buf: &mut [i32])
-    requires { 4 * length buf.old ≤ length raw.now }
-    ensures { buf.new ≡ first_words raw.now (length buf.old) }
-{
-    let mut i = 0;
-    while i < buf.len() {
-        let at = 4 * i;
-        let x = values::constant(raw, at);
-        buf[i] = x;
-        i += 1;
+    for x in buf.iter_mut() {
+        *x = number(from)?;
     }
+    Ok(())
+}
+
+// Fills buf with words of four bytes.
+pub fn fill_words<R: Read>(from: &mut R, buf: &mut [i32]) -> Result<(), Unserved>
+    requires { length buf.old ≤ MOST }
+    ensures whole { OnOk result (IfSome (R.remaining from.old) (λ xs. 4 * length buf.old ≤ length xs)) }
+    ensures cut { IsErrOf result NoRequest → IfSome (R.remaining from.old) (λ xs. length xs < 4 * length buf.old) }
+    ensures words { OnOk result (IfSome (R.remaining from.old) (λ xs. buf.new ≡ constants_in (take (4 * length buf.old) xs) (length buf.old))) }
+    ensures rest { OnOk result (Skips (4 * length buf.old) (R.remaining from.old) (R.remaining from.new)) }
+{
+    let mut raw = [0u8; 4 * MOST];
+    let bytes = &mut raw[..4 * buf.len()];
+    fill(from, bytes)?;
+    values::constants(bytes, buf);
+    Ok(())
 }

@@ -7,12 +7,6 @@ use definitions::Reply;
 use std::io;
 use std::io::Write;
 
-pub fn text<W: Write>(to: &mut W, bytes: &[u8]) -> io::Result<()>
-    ensures { OnOk result (Appends (W.contents to.old) (W.contents to.new) bytes.now) }
-{
-    to.write_all(bytes)
-}
-
 pub fn reply<W: Write>(to: &mut W, r: Reply) -> io::Result<()>
     ensures { OnOk result (Appends (W.contents to.old) (W.contents to.new) (reply_text r)) }
 {
