@@ -6,9 +6,9 @@ use Rattle.std.proofs.lemmas.List.{length-take-le, take_all}
 use Rattle.definitions.specs.Pages.{size_ok, most_pages, page_size, unpacked}
 use Rattle.definitions.specs.Plan.{longest_plan}
 use Rattle.definitions.specs.Calls.{to_compile, reply_in, bytes_in}
-use Rattle.definitions.specs.declared.Reply.{Reply}
-use Rattle.definitions.specs.declared.Reply.TheVariants.{Done, Refused}
+use Rattle.definitions.specs.Refusals.{Reply}
 use Rattle.answers.specs.Answer.{no_batch, most_input, input_answer, file_answer, answer_to}
+use Rattle.std.specs.Prelude.{Ok, Err}
 
 -- ---- the input
 
@@ -54,8 +54,8 @@ file-cut file = file-cut_in file (ltb (most_pages * page_size) (length file)) re
 
 reply-cut : (r : Reply) (plan s : List ℕ) → file_answer r plan (take (most_input + 1) s) ≡ file_answer r plan s
 unfolding file_answer
-reply-cut (Done n) plan s = input-cut plan s
-reply-cut (Refused f) plan s = refl
+reply-cut (Ok n) plan s = input-cut plan s
+reply-cut (Err f) plan s = refl
 
 pub answer-cut : (file s : List ℕ) → answer_to (take (most_pages * page_size + 1) file) (take (most_input + 1) s) ≡ answer_to file s
 unfolding answer_to

@@ -13,13 +13,17 @@ use Rattle.values.specs.Words.{constants_in}
 use Rattle.definitions.specs.Values.{Word}
 use Rattle.definitions.specs.Grammar.{Got, got, refused}
 use Rattle.definitions.specs.Plan.{planned, longest_plan}
-use Rattle.definitions.specs.Calls.{Batch, refusal, Ran, Wrote, run_reply, records_in, to_compile, reply_in}
+use Rattle.definitions.specs.Calls.{Batch, Ran, Wrote, run_reply, records_in, to_compile, reply_in}
 use Rattle.definitions.specs.declared.Refusal.{Refusal}
-use Rattle.definitions.specs.declared.Reply.{Reply}
-use Rattle.definitions.specs.declared.Reply.TheVariants.{Done, Refused}
+use Rattle.definitions.specs.Refusals.{Reply}
 use Rattle.rules.proofs.Promises.{done-bytes}
 use Rattle.printing.specs.Text.{words_text, line_text, lines_text, record_at, answer_text, refusal_text}
 use Rattle.answers.specs.Answer.{words_in, no_batch, batch_in, result_room, work_room, ran_answer, batch_answer, input_answer, file_answer, answer_to}
+use Rattle.std.specs.Prelude.{Ok, Err}
+use Rattle.definitions.specs.Refusals.{refusal}
+use Rattle.definitions.specs.declared.Reason.{Reason}
+use Rattle.definitions.specs.Refusals.{number_of}
+use Rattle.definitions.specs.declared.Reason.TheVariants.{NoRoom}
 
 -- ---- the values
 
@@ -40,7 +44,7 @@ values-read s {m} h =
 
 -- ---- a run's reply
 
-no_refusal : (t : Bool) (k p : ℕ) {r : Reply} {most : ℕ} → cond t (refusal k p) r ≡ Done most → (t ≡ false) × (r ≡ Done most)
+no_refusal : (t : Bool) (k : Reason) (p : ℕ) {r : Reply} {most : ℕ} → cond t (refusal k p) r ≡ Ok most → (t ≡ false) × (r ≡ Ok most)
 no_refusal true k p e = let z : ◌≡◌ {A = ℕ} 0 1 = cc in absurd (omega arith)
 no_refusal false k p e = (refl, e)
 
@@ -75,14 +79,14 @@ module _ {b : Batch} {old work new work' : List Word} {r : Reply} (ran : Ran b o
   reply-is : r ≡ run_reply b (planned b.plan) result_room work_room
   reply-is = ran.reply ∙ rw (fits, fits')
 
-  pub done-text : (most : ℕ) → r ≡ Done most → (m : ℕ) → old ≡ replicate m (pos 0) → answer_text new b.rows b.quota most ≡ batch_answer b
+  pub done-text : (most : ℕ) → r ≡ Ok most → (m : ℕ) → old ≡ replicate m (pos 0) → answer_text new b.rows b.quota most ≡ batch_answer b
   unfolding batch_answer ran_answer
   done-text most e m z =
       let records = records_in b (planned b.plan) in
       let is : new ≡ records ++ replicate (m - length records) (pos 0) = ran.result ∙ rw (e, z, drop-replicate) in
       rw (← reply-is, e, is) (same_answer _ _ (read-zeros records (m - length records)) b.rows b.quota most)
 
-  pub refused-text : (w : Refusal) → r ≡ Refused w → refusal_text w.number w.place ≡ batch_answer b
+  pub refused-text : (w : Refusal) → r ≡ Err w → refusal_text (number_of w.reason) w.place ≡ batch_answer b
   unfolding batch_answer ran_answer
   refused-text w e = rw (← reply-is, e)
 
@@ -100,26 +104,26 @@ module _ (plan s : List ℕ) where
 -- ---- the answer of a file
 
 -- what is written fits
-fits_in : (what : Got (List ℕ)) (room n : ℕ) → reply_in room what ≡ Done n → n ≤ room
+fits_in : (what : Got (List ℕ)) (room n : ℕ) → reply_in room what ≡ Ok n → n ≤ room
 unfolding reply_in
 fits_in (got xs m) room n e =
-    let p = no_refusal (ltb room (length xs)) 12 0 e in
+    let p = no_refusal (ltb room (length xs)) NoRoom 0 e in
     let is : length xs ≡ n = cc in
     omega (arith, ltb-false room (length xs) p.0)
 fits_in (refused k p) room n e = let z : ◌≡◌ {A = ℕ} 0 1 = cc in absurd (omega arith)
 
 module _ (file : List ℕ) {old new : List ℕ} {r : Reply} (w : Wrote (to_compile file) old r new) where
-  pub plan-fits : (n : ℕ) → r ≡ Done n → n ≤ length old
+  pub plan-fits : (n : ℕ) → r ≡ Ok n → n ≤ length old
   plan-fits n e = fits_in (to_compile file) (length old) n (sym w.reply ∙ e)
 
   module _ (fits : length old ≡ longest_plan) where
     file-reply : r ≡ reply_in longest_plan (to_compile file)
     file-reply = w.reply ∙ rw fits
 
-    pub file-done : (n : ℕ) → r ≡ Done n → (s : List ℕ) → input_answer (take n new) s ≡ answer_to file s
+    pub file-done : (n : ℕ) → r ≡ Ok n → (s : List ℕ) → input_answer (take n new) s ≡ answer_to file s
     unfolding answer_to file_answer
     file-done n e s = rw (← file-reply, e, done-bytes (to_compile file) old n new (rw e at w))
 
-    pub file-refused : (f : Refusal) → r ≡ Refused f → (s : List ℕ) → refusal_text f.number f.place ≡ answer_to file s
+    pub file-refused : (f : Refusal) → r ≡ Err f → (s : List ℕ) → refusal_text (number_of f.reason) f.place ≡ answer_to file s
     unfolding answer_to file_answer
     file-refused f e s = rw (← file-reply, e)

@@ -6,9 +6,10 @@ use Rattle.definitions.specs.Plan.{planned, longest_plan}
 use Rattle.definitions.specs.Batch.{common, record_size, line_size}
 use Rattle.definitions.specs.Finder.{most_rows, most_quota, most_columns}
 use Rattle.definitions.specs.Calls.{Batch, to_compile, reply_in, bytes_in, run_reply, records_in}
-use Rattle.definitions.specs.declared.Reply.{Reply}
-use Rattle.definitions.specs.declared.Reply.TheVariants.{Done, Refused}
+use Rattle.definitions.specs.Refusals.{Reply}
 use Rattle.printing.specs.Text.{answer_text, refusal_text}
+use Rattle.std.specs.Prelude.{Ok, Err}
+use Rattle.definitions.specs.Refusals.{number_of}
 
 -- ---- the input: rows, budget and quota, then the values
 
@@ -44,8 +45,8 @@ work_room = most_rows * line_size most_columns
 
 -- of a batch: its records, or why it is refused
 unfoldable pub ran_answer : Batch → Reply → List Word → List ℕ
-ran_answer b (Done most) records = answer_text records b.rows b.quota most
-ran_answer b (Refused f) records = refusal_text f.number f.place
+ran_answer b (Ok most) records = answer_text records b.rows b.quota most
+ran_answer b (Err f) records = refusal_text (number_of f.reason) f.place
 
 unfoldable pub batch_answer : Batch → List ℕ
 batch_answer b = ran_answer b (run_reply b (planned b.plan) result_room work_room) (records_in b (planned b.plan))
@@ -56,8 +57,8 @@ input_answer plan s = cond (no_batch (length s)) (refusal_text 13 0) (batch_answ
 
 -- of a file and an input: the file's refusals come first
 unfoldable pub file_answer : Reply → List ℕ → List ℕ → List ℕ
-file_answer (Done n) plan s = input_answer plan s
-file_answer (Refused f) plan s = refusal_text f.number f.place
+file_answer (Ok n) plan s = input_answer plan s
+file_answer (Err f) plan s = refusal_text (number_of f.reason) f.place
 
 unfoldable pub answer_to : List ℕ → List ℕ → List ℕ
 answer_to file s = file_answer (reply_in longest_plan (to_compile file)) (bytes_in (to_compile file)) s

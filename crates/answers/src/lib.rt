@@ -9,7 +9,7 @@ ghost use Rattle.definitions.specs.Batch.{common};
 ghost use Rattle.printing.specs.Text.{text_room};
 ghost use Rattle.answers.specs.Answer.{number_in, words_in, no_batch, most_input, batch_in, input_answer, batch_answer, answer_to};
 
-use definitions::{LONGEST_PLAN, ROWS, Reply, VARIABLES};
+use definitions::{LONGEST_PLAN, ROWS, Reason, VARIABLES};
 pub use files::{open, print, write_answer};
 use layouts::{MOST_LINES, MOST_RECORDS};
 
@@ -46,8 +46,8 @@ fn put_batch(
     let mut work = [0i32; MOST_LINES];
     let reply = batches::run(plan, rows, values, budget, quota, &mut result, &mut work);
     match reply {
-        Reply::Refused(f) => printing::put_refusal(f.number, f.place, out),
-        Reply::Done(most) => printing::put_answer(&result, rows, quota, most, out),
+        Err(f) => printing::put_refusal(f.reason.number(), f.place, out),
+        Ok(most) => printing::put_answer(&result, rows, quota, most, out),
     }
 }
 
@@ -82,7 +82,7 @@ fn put_input(plan: &[u8], input: &[u8], out: &mut [u8]) -> usize
     ensures out_after { take result out.new ≡ input_answer plan.now input.now }
 {
     if is_cut(input.len()) {
-        return printing::put_refusal(13, 0, out);
+        return printing::put_refusal(Reason::Misfit.number(), 0, out);
     }
     put_whole(plan, input, out)
 }
@@ -96,7 +96,7 @@ pub fn answer(file: &[u8], input: &[u8], out: &mut [u8]) -> usize
     let mut plan = [0u8; LONGEST_PLAN];
     let reply = plans::compile(file, &mut plan);
     match reply {
-        Reply::Refused(f) => printing::put_refusal(f.number, f.place, out),
-        Reply::Done(size) => put_input(&plan[..size], input, out),
+        Err(f) => printing::put_refusal(f.reason.number(), f.place, out),
+        Ok(size) => put_input(&plan[..size], input, out),
     }
 }

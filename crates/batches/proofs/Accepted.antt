@@ -19,18 +19,17 @@ use Rattle.plans.proofs.Accepted.{is-plan}
 use Rattle.plans.proofs.Proper.{proper}
 use Rattle.plans.specs.Taken.{Taking}
 use Rattle.rounds.specs.Round.{Lies}
-use Rattle.plans.specs.declared.Taken.{Taken}
-use Rattle.plans.specs.declared.Taken.TheVariants as taken
 use Rattle.plans.proofs.Carried.{carried-rule, carried-in, head-fits, at-variables, at-arguments, at-lc, columns-counted}
 use Rattle.columns.specs.Proper.{Proper}
 use Rattle.layouts.specs.Layout.{width, Known}
+use Rattle.std.specs.Prelude.{Option, Some}
 
 -- the rule of an accepted plan is proper
 pub is-proper : (plan : List ℕ) (r : Rule) (n : ℕ) → planned plan ≡ got r n → Proper r
 is-proper plan r n e = proper (carried plan) r n ((is-plan plan r n).0 e).rule
 
 -- the buffer that it was taken into begins with its rule
-pub lies : {plan : List ℕ} {t : Taken} {buffer : List ℕ} → Taking plan t buffer → (n : ℕ) → t ≡ taken.Rule n → length buffer ≡ longest → Lies (carried plan) buffer
+pub lies : {plan : List ℕ} {t : Option ℕ} {buffer : List ℕ} → Taking plan t buffer → (n : ℕ) → t ≡ Some n → length buffer ≡ longest → Lies (carried plan) buffer
 lies {plan} {t} {buffer} k n e h =
     let s : take n buffer ≡ carried plan = k.bytes n e in
     let l : length (carried plan) ≡ min n (length buffer) = sym (ap length s) ∙ length-take n buffer in

@@ -10,10 +10,10 @@ use lib.ListN.{length, get_or, drop}
 use lib.Seq.{drop-cons, drop-length}
 use borrow.Author.Tests.{ltb-true, ltb-false, lt-ltb, le-ltb, eqb-true, eqb-false, eq-eqb, ne_eqb}
 use Rattle.definitions.specs.Batch.{Budgets, common, each, budget_of}
-use Rattle.definitions.specs.Calls.{most_budget, brought, as_many, first_over, some_over, refusal}
-use Rattle.definitions.specs.declared.Reply.TheVariants.{Done}
-use Rattle.batches.specs.Tests.{over_budget}
+use Rattle.definitions.specs.Calls.{most_budget, brought, as_many, first_over, some_over}
+use Rattle.batches.specs.Tests.{passes, fails, over_budget}
 use Rattle.batches.specs.Replies.{Counted, for_all, for_each, NoneOver, FirstOver}
+use Rattle.definitions.specs.declared.Reason.TheVariants.{OverLimit}
 
 -- ---- the first over the limit
 
@@ -115,20 +115,20 @@ unfolding first_over
 seek_end Ns i h e = sym (e ∙ rw (h, drop-length Ns) (omega arith))
 
 -- ---- the reply to them
-pub common-high : {N : ℕ} → most_budget < N → refusal 14 0 ≡ over_budget (common N)
+pub common-high : {N : ℕ} → most_budget < N → fails OverLimit 0 ≡ over_budget (common N)
 common-high {N} h =
     let f : FirstOver (N ∷ []) 0 = record { there = omega arith; over = h; lower = λ i l. absurd (omega arith) } in
     rw (is-over (N ∷ []) 0 f, first-is (N ∷ []) 0 f)
 
-pub common-low : {N : ℕ} → N ≤ most_budget → Done 0 ≡ over_budget (common N)
+pub common-low : {N : ℕ} → N ≤ most_budget → passes ≡ over_budget (common N)
 common-low {N} h = rw (is_none (N ∷ []) (only N h))
   where
     only : (N : ℕ) → N ≤ most_budget → NoneOver (N ∷ [])
     only N h zero = h
     only N h (suc i) = omega arith
 
-pub each-high : (Ns : List ℕ) {n : ℕ} → n ≡ first_over Ns → n < length Ns → refusal 14 n ≡ over_budget (each Ns)
+pub each-high : (Ns : List ℕ) {n : ℕ} → n ≡ first_over Ns → n < length Ns → fails OverLimit n ≡ over_budget (each Ns)
 each-high Ns {n} e h = rw (← e, lt-ltb n (length Ns) h)
 
-pub each-low : (Ns : List ℕ) {n : ℕ} → n ≡ first_over Ns → length Ns ≤ n → Done 0 ≡ over_budget (each Ns)
+pub each-low : (Ns : List ℕ) {n : ℕ} → n ≡ first_over Ns → length Ns ≤ n → passes ≡ over_budget (each Ns)
 each-low Ns {n} e h = rw (← e, le-ltb n (length Ns) h)

@@ -13,7 +13,7 @@ use Rattle.definitions.specs.Plan.{planned}
 use Rattle.definitions.specs.Direct.{after}
 use Rattle.definitions.specs.Batch.{Budgets, common, each, budget_of, starts_of}
 use Rattle.definitions.specs.Calls.{Batch, most_budget, rows_of, ran_reply, run_reply, records_in, table_in, Ran}
-use Rattle.definitions.specs.declared.Reply.{Reply}
+use Rattle.definitions.specs.Refusals.{Reply}
 use Rattle.definitions.proofs.Tests.{less_or}
 use Rattle.tables.proofs.Rows.{map-alike}
 use Rattle.tables.proofs.Starts.{starts-length}

@@ -14,13 +14,16 @@ use Rattle.definitions.specs.Grammar.{Got, got, refused}
 use Rattle.definitions.specs.Plan.{planned}
 use Rattle.definitions.specs.Batch.{record_size, line_size}
 use Rattle.definitions.specs.Finder.{most_rows, most_quota}
-use Rattle.definitions.specs.Calls.{Batch, Ran, brought, as_many, ran_reply, run_reply, columns, refusal}
-use Rattle.definitions.specs.declared.Reply.{Reply}
-use Rattle.definitions.specs.declared.Reply.TheVariants.{Done}
+use Rattle.definitions.specs.Calls.{Batch, Ran, brought, as_many, ran_reply, run_reply, columns}
+use Rattle.definitions.specs.Refusals.{Reply}
 use Rattle.definitions.proofs.Tests.{or_right, less_or}
 use Rattle.plans.proofs.Planned.{plan-exactly}
 use Rattle.batches.proofs.Budgets.{first-is, over_or, is-over, is_none, is-counted, is-miscounted, counted_or}
 use Rattle.batches.specs.Replies.{Counted, Fitting, NoneOver, FirstOver, UnderRule, misfit, high, high_row, short_out, short_work, done, ToRun, no_plan, under}
+use Rattle.std.specs.Prelude.{Ok}
+use Rattle.definitions.specs.declared.Reason.TheVariants.{NotPlan}
+use Rattle.definitions.specs.Refusals.{refusal}
+use Rattle.definitions.specs.declared.Reason.{Reason}
 
 same_or : (a b : ℕ) → (a ≡ b) ⊎ (a ≡ b → ⊥)
 same_or a b = go (eqb a b) refl
@@ -82,14 +85,14 @@ module _ (b : Batch) (out work : ℕ) where
     where
       go : (g : Got Rule) → planned b.plan ≡ g → (q : Reply) × ToRun b out work q
       go (got r n) e = let s = some-row b r out work in (s.0, under ((plan-exactly b.plan r).0 (n, e)) s.1)
-      go (refused k p) e = (refusal 15 0, no_plan (λ r h. let a = (plan-exactly b.plan r).1 h in let i = a.1 in let z : ◌≡◌ {A = ℕ} 0 1 = cc in omega arith))
+      go (refused k p) e = (refusal NotPlan 0, no_plan (λ r h. let a = (plan-exactly b.plan r).1 h in let i = a.1 in let z : ◌≡◌ {A = ℕ} 0 1 = cc in omega arith))
 
   only-reply : (q : Reply) → ToRun b out work q → run_reply b (planned b.plan) out work ≡ q
   unfolding run_reply
   only-reply q (under {r} p h) = rw ((plan-exactly b.plan r).1 p).1 (only_row b r out work q h)
   only-reply _ (no_plan h) = go (planned b.plan) refl
     where
-      go : (g : Got Rule) → planned b.plan ≡ g → run_reply b g out work ≡ refusal 15 0
+      go : (g : Got Rule) → planned b.plan ≡ g → run_reply b g out work ≡ refusal NotPlan 0
       go (got r n) e = absurd (h r ((plan-exactly b.plan r).0 (n, e)))
       go (refused k p) e = refl
 
@@ -99,7 +102,7 @@ run_exactly b out work r out' work' w q =
     (λ e. rw (sym (only-reply b (length out) (length work) s.0 s.1) ∙ sym w.reply ∙ e) at s.1, λ h. w.reply ∙ only-reply b (length out) (length work) q h)
 
 -- a refusal is no run that is done
-no-done : {k p most : ℕ} {A : Type 0} → refusal k p ≡ Done most → A
+no-done : {k : Reason} {p most : ℕ} {A : Type 0} → refusal k p ≡ Ok most → A
 no-done e = let z : ◌≡◌ {A = ℕ} 0 1 = cc in absurd (omega arith)
 
 -- a run that is done kept to the limits, and its records fit
@@ -107,7 +110,7 @@ abbrev Kept : Batch → ℕ → Type 0
 Kept b out = (b.rows ≤ most_rows) × ((b.quota ≤ most_quota) × (b.rows * record_size b.quota ≤ out))
 
 module _ {b : Batch} {out work most : ℕ} where
-  under-within : {r : Rule} {q : Reply} → UnderRule b r out work q → q ≡ Done most → Kept b out
+  under-within : {r : Rule} {q : Reply} → UnderRule b r out work q → q ≡ Ok most → Kept b out
   under-within (misfit _) e = no-done e
   under-within (high _ _) e = no-done e
   under-within (high_row _ _ _) e = no-done e
@@ -115,9 +118,9 @@ module _ {b : Batch} {out work most : ℕ} where
   under-within (short_work _ _ _ _) e = no-done e
   under-within (done f l h _) e = (f.few, (l.quota-low, h))
 
-  run-within : {q : Reply} → ToRun b out work q → q ≡ Done most → Kept b out
+  run-within : {q : Reply} → ToRun b out work q → q ≡ Ok most → Kept b out
   run-within (no_plan _) e = no-done e
   run-within (under p w) e = under-within w e
 
-pub done-within : {b : Batch} {out work most : ℕ} {q : ℕ} → b.quota ≡ q → ToRun b out work (Done most) → (b.rows ≤ most_rows) × ((q ≤ most_quota) × (b.rows * record_size q ≤ out))
+pub done-within : {b : Batch} {out work most : ℕ} {q : ℕ} → b.quota ≡ q → ToRun b out work (Ok most) → (b.rows ≤ most_rows) × ((q ≤ most_quota) × (b.rows * record_size q ≤ out))
 done-within e w = rw (← e) (run-within w refl)

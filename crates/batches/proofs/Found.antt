@@ -18,7 +18,6 @@ use Rattle.definitions.specs.Direct.{State, goes_on, start, after}
 use Rattle.definitions.specs.Batch.{record_size, line_size, record_of, line_of, live_of, states_of}
 use Rattle.definitions.specs.Finder.{Part, is_number, found_in, most_rows, most_quota, most_columns}
 use Rattle.definitions.specs.Calls.{Batch, columns, table_in}
-use Rattle.definitions.specs.declared.Reply.TheVariants.{Done}
 use Rattle.definitions.proofs.Counts.{count_le}
 use Rattle.layouts.specs.Layout.{lines_in}
 use Rattle.finder.specs.Limits.{within}
@@ -28,6 +27,7 @@ use Rattle.batches.proofs.Accepted.{is-proper}
 use Rattle.batches.proofs.Promises.{Called, record_at, rounds_of, direct}
 use Rattle.batches.proofs.Exactly.{run_exactly, done-within}
 use Rattle.batches.proofs.Searches.{address_of, its-line}
+use Rattle.std.specs.Prelude.{Ok}
 
 -- ---- the promises
 
@@ -63,7 +63,7 @@ module _ (plan : List ℕ) (r : Rule) (n : ℕ) (accepted : planned plan ≡ got
     unfolding within
     inside =
         let c = a.called in
-        let l = done-within c.quota ((run_exactly batch c.out c.work (Done c.most) a.result.now c.table c.ran (Done c.most)).0 refl) in
+        let l = done-within c.quota ((run_exactly batch c.out c.work (Ok c.most) a.result.now c.table c.ran (Ok c.most)).0 refl) in
         let kept : length c.out ≤ length a.result.now = omega (arith, simp (length-append, length-drop) at (ap length c.ran.result)) in
         let narrow : columns r ≤ most_columns = omega (arith, count_le r.variables (LC (flow_of r)), (is-proper plan r n accepted).few) in
         rw (lt-ltb k batch.rows c.within, le-leb batch.rows most_rows l.0, le-leb q most_quota l.1.0, le-leb (columns r) most_columns narrow, le-leb (batch.rows * record_size q) (length a.result.now) (omega arith))

@@ -19,8 +19,7 @@ use Rattle.definitions.specs.Batch.{Budgets, budget_of, map_from, record_size, r
 use Rattle.definitions.specs.Calls.{Batch, Ran, records_in}
 use Rattle.definitions.proofs.Values.{values_length, words-length, values-again}
 use Rattle.definitions.specs.declared.Refusal.{Refusal}
-use Rattle.definitions.specs.declared.Reply.{Reply}
-use Rattle.definitions.specs.declared.Reply.TheVariants.{Done, Refused}
+use Rattle.definitions.specs.Refusals.{Reply}
 use Rattle.columns.specs.Proper.{Proper}
 use Rattle.columns.proofs.Rows.{Grown, after-begun, after_add, after-done, after-grown, run_sound}
 use Rattle.layouts.proofs.Buffers.{part_mid}
@@ -29,6 +28,7 @@ use Rattle.tables.proofs.Rows.{map-append, records-append}
 use Rattle.tables.proofs.Starts.{starts-length}
 use Rattle.tables.proofs.Runs.{records-size}
 use Rattle.batches.proofs.Accepted.{is-proper}
+use Rattle.std.specs.Prelude.{Ok, Err}
 
 -- ---- every call
 
@@ -39,7 +39,7 @@ one_outcome b out work r r' o o' w w' p p' =
     (e, p.result ∙ rw e (sym p'.result), p.working ∙ rw e (sym p'.working))
 
 -- a refusal changes no word
-pub refused-keeps : (b : Batch) (out work : List Word) (f : Refusal) (o w : List Word) → Ran b out work (Refused f) o w → (o ≡ out) × (w ≡ work)
+pub refused-keeps : (b : Batch) (out work : List Word) (f : Refusal) (o w : List Word) → Ran b out work (Err f) o w → (o ≡ out) × (w ≡ work)
 refused-keeps b out work f o w p = (p.result, p.working)
 
 -- ---- a row in a call that is not refused
@@ -64,7 +64,7 @@ pub record Called (plan : List ℕ) (r : Rule) (args : List Val) (N q k : ℕ) (
   pub work : List Word
   pub table : List Word
   pub most : ℕ
-  pub ran : Ran batch out work (Done most) results table
+  pub ran : Ran batch out work (Ok most) results table
   pub plan' : batch.plan ≡ plan
   pub budget : budget_of batch.budgets k ≡ N
   pub quota : batch.quota ≡ q

@@ -13,10 +13,9 @@ use Rattle.definitions.specs.Grammar.{got, refused}
 use Rattle.definitions.specs.Plan.{planned}
 use Rattle.definitions.specs.Batch.{Budgets, record_size, most_of}
 use Rattle.definitions.specs.Finder.{most_rows, most_quota}
-use Rattle.definitions.specs.Calls.{Batch, Ran, brought, as_many, first_over, some_over, ran_reply, run_reply, records_in, table_in, refusal, rows_of}
+use Rattle.definitions.specs.Calls.{Batch, Ran, brought, as_many, first_over, some_over, ran_reply, run_reply, records_in, table_in, rows_of}
 use Rattle.definitions.specs.declared.Refusal.{Refusal}
-use Rattle.definitions.specs.declared.Reply.{Reply}
-use Rattle.definitions.specs.declared.Reply.TheVariants.{Done, Refused}
+use Rattle.definitions.specs.Refusals.{Reply}
 use Rattle.layouts.specs.Layout.{width}
 use Rattle.layouts.specs.declared.Layout.{Layout}
 use Rattle.tables.specs.Runs.{Allowed, RowsRun}
@@ -24,8 +23,12 @@ use Rattle.tables.specs.Table.{budgets_in}
 use Rattle.tables.specs.declared.Allowance.{Allowance}
 use Rattle.tables.specs.declared.Allowance.TheVariants.{Common, Each}
 use Rattle.tables.specs.declared.Extent.{Extent}
-use Rattle.batches.specs.Tests.{miscounted, misfits, over_budget, short_of, or_else, tested}
+use Rattle.batches.specs.Tests.{Tested, passes, fails, miscounted, misfits, over_budget, short_of, or_else, tested}
 use Rattle.batches.proofs.Budgets.{all-low}
+use Rattle.std.specs.Prelude.{Ok, Err}
+use Rattle.definitions.specs.declared.Reason.TheVariants.{NoRoom, Misfit, OverLimit, NotPlan}
+use Rattle.definitions.specs.Refusals.{refusal}
+use Rattle.definitions.specs.declared.Reason.{Reason}
 
 -- ---- one test after the other
 
@@ -35,31 +38,31 @@ no_test true y e =
     absurd (omega arith)
 no_test false y e = (refl, e)
 
-passed : (b : Bool) (f : Refusal) (x : Reply) (m : ℕ) → cond b (Refused f) x ≡ Done m → (b ≡ false) × (x ≡ Done m)
-passed true f x m e =
+passed : (b : Bool) (f : Refusal) (x : Tested) → cond b (Err f) x ≡ passes → (b ≡ false) × (x ≡ passes)
+passed true f x e =
     let z : ◌≡◌ {A = ℕ} 0 1 = cc in
     absurd (omega arith)
-passed false f x m e = (refl, e)
+passed false f x e = (refl, e)
 
 -- where a test of another kind refuses nothing
-past : (b : Bool) (f : Refusal) (x : Reply) (m : ℕ) → or_else (cond b (Refused f) (Done 0)) x ≡ Done m → (b ≡ false) × (x ≡ Done m)
-past true f x m e =
+past : (b : Bool) (f : Refusal) (x : Tested) → or_else (cond b (Err f) passes) x ≡ passes → (b ≡ false) × (x ≡ passes)
+past true f x e =
     let z : ◌≡◌ {A = ℕ} 0 1 = cc in
     absurd (omega arith)
-past false f x m e = (refl, e)
+past false f x e = (refl, e)
 
 module _ (l : Layout) (e : Extent) (budgets : List ℕ) (values out work : ℕ) where
   abbrev bs : Budgets
   bs = budgets_in e.allowance budgets
 
-  pub tested_allowed : (k : ℕ) → tested l e budgets values out work ≡ Done k → Allowed l e.rows bs values out work
+  pub tested_allowed : tested l e budgets values out work ≡ passes → Allowed l e.rows bs values out work
   unfolding tested
-  tested_allowed k t =
-      let p1 = passed (misfits l e values (length budgets)) _ _ k t in
-      let p2 = passed (ltb most_quota l.quota) _ _ k p1.1 in
-      let p3 = past (some_over (brought bs)) _ _ k p2.1 in
-      let p4 = passed (ltb out (e.rows * record_size l.quota)) _ _ k p3.1 in
-      let p5 = passed (ltb work (e.rows * l.size)) _ _ k p4.1 in
+  tested_allowed t =
+      let p1 = passed (misfits l e values (length budgets)) _ _ t in
+      let p2 = passed (ltb most_quota l.quota) _ _ p1.1 in
+      let p3 = past (some_over (brought bs)) _ _ p2.1 in
+      let p4 = passed (ltb out (e.rows * record_size l.quota)) _ _ p3.1 in
+      let p5 = passed (ltb work (e.rows * l.size)) _ _ p4.1 in
       let t1 = no_test (ltb most_rows e.rows) _ p1.0 in
       let t2 = no_test (not (eqb values (e.rows * l.arguments))) _ t1.1 in
       record {
@@ -72,7 +75,7 @@ module _ (l : Layout) (e : Extent) (budgets : List ℕ) (values out work : ℕ) 
       }
 
   -- what each test says, where none before it refuses
-  pub tested-misfit : misfits l e values (length budgets) ≡ true → refusal 13 0 ≡ tested l e budgets values out work
+  pub tested-misfit : misfits l e values (length budgets) ≡ true → fails Misfit 0 ≡ tested l e budgets values out work
   unfolding tested
   tested-misfit t = rw t
 
@@ -80,28 +83,28 @@ module _ (l : Layout) (e : Extent) (budgets : List ℕ) (values out work : ℕ) 
     pub few-rows : e.rows ≤ most_rows
     few-rows = ltb-false most_rows e.rows (no_test (ltb most_rows e.rows) _ fit).0
 
-    pub tested-high : most_quota < l.quota → refusal 14 0 ≡ tested l e budgets values out work
+    pub tested-high : most_quota < l.quota → fails OverLimit 0 ≡ tested l e budgets values out work
     unfolding tested
     tested-high h = rw (fit, lt-ltb most_quota l.quota h)
 
     module _ (low : l.quota ≤ most_quota) where
-      pub tested-over : (f : Refusal) → over_budget bs ≡ Refused f → Refused f ≡ tested l e budgets values out work
+      pub tested-over : (f : Refusal) → over_budget bs ≡ Err f → Err f ≡ tested l e budgets values out work
       unfolding tested
-      tested-over f i = rw (fit, le-ltb most_quota l.quota low) (ap (λ (x : Reply). or_else x (short_of l e.rows out work)) (sym i))
+      tested-over f i = rw (fit, le-ltb most_quota l.quota low) (ap (λ (x : Tested). or_else x (short_of l e.rows out work)) (sym i))
 
-      pub tested-short : (k : ℕ) → over_budget bs ≡ Done k → short_of l e.rows out work ≡ tested l e budgets values out work
+      pub tested-short : over_budget bs ≡ passes → short_of l e.rows out work ≡ tested l e budgets values out work
       unfolding tested
-      tested-short k i = rw (fit, le-ltb most_quota l.quota low) (ap (λ (x : Reply). or_else x (short_of l e.rows out work)) (sym i))
+      tested-short i = rw (fit, le-ltb most_quota l.quota low) (ap (λ (x : Tested). or_else x (short_of l e.rows out work)) (sym i))
 
 -- the answer where no test refuses
-abbrev answered : ℕ → Reply → Reply
-answered most (Refused f) = Refused f
-answered most (Done n) = Done most
+abbrev answered : ℕ → Tested → Reply
+answered most (Err f) = Err f
+answered most (Ok u) = Ok most
 
 -- the tests, one after the other
 in-turn : (a b c d e : Bool) (n most : ℕ)
-    → cond a (refusal 13 0) (cond b (refusal 14 0) (cond c (refusal 14 n) (cond d (refusal 12 0) (cond e (refusal 12 1) (Done most)))))
-    ≡ answered most (cond a (refusal 13 0) (cond b (refusal 14 0) (or_else (cond c (refusal 14 n) (Done 0)) (cond d (refusal 12 0) (cond e (refusal 12 1) (Done 0))))))
+    → cond a (refusal Misfit 0) (cond b (refusal OverLimit 0) (cond c (refusal OverLimit n) (cond d (refusal NoRoom 0) (cond e (refusal NoRoom 1) (Ok most)))))
+    ≡ answered most (cond a (fails Misfit 0) (cond b (fails OverLimit 0) (or_else (cond c (fails OverLimit n) passes) (cond d (fails NoRoom 0) (cond e (fails NoRoom 1) passes)))))
 in-turn true b c d e n most = refl
 in-turn false true c d e n most = refl
 in-turn false false true d e n most = refl
@@ -116,7 +119,7 @@ miscount_is Each rows budgets = refl
 -- ---- the contract
 
 -- 15: no plan
-pub ran_unplanned : (b : Batch) (out work : List Word) (k p : ℕ) → planned b.plan ≡ refused k p → Ran b out work (refusal 15 0) out work
+pub ran_unplanned : (b : Batch) (out work : List Word) (k : Reason) (p : ℕ) → planned b.plan ≡ refused k p → Ran b out work (refusal NotPlan 0) out work
 unfolding run_reply
 ran_unplanned b out work k p e = record { reply = rw e; result = refl; working = refl }
 
@@ -128,7 +131,7 @@ module _ (plan : List ℕ) (e : Extent) (values : List Word) (budgets : List ℕ
   abbrev layout : Layout
   layout = record { variables = variables; arguments = arguments; lc = lc; size = size; quota = quota }
 
-  abbrev answer : Reply
+  abbrev answer : Tested
   answer = tested layout e budgets (length values) (length out) (length work)
 
   reply-is : run_reply b (planned plan) (length out) (length work) ≡ answered (most_of (rows_of b r)) answer
@@ -138,13 +141,13 @@ module _ (plan : List ℕ) (e : Extent) (values : List Word) (budgets : List ℕ
       (in-turn (ltb most_rows e.rows || (not (eqb (length values) (e.rows * r.arguments)) || not (as_many e.rows b.budgets))) (ltb most_quota quota) (some_over (brought b.budgets))
       (ltb (length out) (e.rows * record_size quota)) (ltb (length work) (e.rows * width r)) (first_over (brought b.budgets)) (most_of (rows_of b r)))
 
-  pub ran-refused : (f : Refusal) → answer ≡ Refused f → Ran b out work (Refused f) out work
+  pub ran-refused : (f : Refusal) → answer ≡ Err f → Ran b out work (Err f) out work
   ran-refused f i = record { reply = sym (reply-is ∙ ap (answered (most_of (rows_of b r))) i); result = refl; working = refl }
 
-  pub ran-done : (k : ℕ) → answer ≡ Done k → (most : ℕ) (out' work' : List Word) → RowsRun r values e.rows b.budgets quota out work most out' work' → Ran b out work (Done most) out' work'
+  pub ran-done : answer ≡ passes → (most : ℕ) (out' work' : List Word) → RowsRun r values e.rows b.budgets quota out work most out' work' → Ran b out work (Ok most) out' work'
   unfolding records_in table_in
-  ran-done k i most out' work' l = record {
-    reply = ap Done l.most' ∙ sym (reply-is ∙ ap (answered (most_of (rows_of b r))) i);
+  ran-done i most out' work' l = record {
+    reply = ap Ok l.most' ∙ sym (reply-is ∙ ap (answered (most_of (rows_of b r))) i);
     result = rw accepted l.records;
     working = rw accepted l.table;
   }

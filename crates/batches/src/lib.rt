@@ -10,9 +10,8 @@ ghost use Rattle.carries.specs.Carry.{Running};
 ghost use Rattle.tables.specs.Table.{budgets_in};
 ghost use Rattle.batches.specs.Tests.{misfits, over_budget, short_of, tested};
 
-use definitions::{BUDGET, LONGEST, QUOTA, ROWS, Reply, refuse};
+use definitions::{BUDGET, LONGEST, QUOTA, ROWS, Reason, Refusal};
 use layouts::{Layout, line_size, record_at};
-use plans::Taken;
 use rounds::Rule;
 use tables::{Allowance, Extent, run_rows, widened};
 
@@ -50,59 +49,61 @@ fn first_over(budgets: &[u32]) -> usize
     i
 }
 
-// A refusal of the lowest row whose budget is over the limit, or 0 where there is none.
-fn over_budget(a: Allowance, budgets: &[u32]) -> Reply
+// A refusal of the lowest row whose budget is over the limit.
+fn over_budget(a: Allowance, budgets: &[u32]) -> Result<(), Refusal>
     ensures { result ≡ over_budget (budgets_in a budgets.now) }
 {
     match a {
         Allowance::Common(n) => {
             if BUDGET < n {
-                refuse(14, 0)
-            } else {
-                Reply::Done(0)
+                return Err(Reason::OverLimit.at(0));
             }
         }
         Allowance::Each => {
             let row = first_over(budgets);
             if row < budgets.len() {
-                refuse(14, row)
-            } else {
-                Reply::Done(0)
+                return Err(Reason::OverLimit.at(row));
             }
         }
     }
+    Ok(())
 }
 
-// A refusal for want of room, or 0 where there is none.
-fn short(l: Layout, rows: usize, out: usize, work: usize) -> Reply
+// A refusal for want of room.
+fn short(l: Layout, rows: usize, out: usize, work: usize) -> Result<(), Refusal>
     requires { (rows ≤ most_rows) × ((l.quota ≤ most_quota) × (l.size ≤ line_size most_columns)) }
     ensures { result ≡ short_of l rows out work }
 {
     if out < record_at(rows, l.quota) {
-        return refuse(12, 0);
+        return Err(Reason::NoRoom.at(0));
     }
     if work < rows * l.size {
-        return refuse(12, 1);
+        return Err(Reason::NoRoom.at(1));
     }
-    Reply::Done(0)
+    Ok(())
 }
 
-// What the numbers of a call come to: a refusal, or 0 where none is due.
-fn test(l: Layout, e: Extent, budgets: &[u32], values: usize, out: usize, work: usize) -> Reply
+// What the numbers of a call come to: the refusal that is due first.
+fn test(
+    l: Layout,
+    e: Extent,
+    budgets: &[u32],
+    values: usize,
+    out: usize,
+    work: usize,
+) -> Result<(), Refusal>
     requires { (l.arguments ≤ most_variables) × (l.size ≤ line_size most_columns) }
     ensures { result ≡ tested l e budgets.now values out work }
 {
     if misfitting(l, e, values, budgets.len()) {
-        return refuse(13, 0);
+        return Err(Reason::Misfit.at(0));
     }
     if QUOTA < l.quota {
-        return refuse(14, 0);
+        return Err(Reason::OverLimit.at(0));
     }
     let allowance = e.allowance;
-    match over_budget(allowance, budgets) {
-        Reply::Refused(f) => Reply::Refused(f),
-        Reply::Done(_) => short(l, e.rows, out, work),
-    }
+    over_budget(allowance, budgets)?;
+    short(l, e.rows, out, work)
 }
 
 // ---- the calls
@@ -117,7 +118,7 @@ fn run_plan(
     values: &[i32],
     out: &mut [i32],
     work: &mut [i32],
-) -> Reply
+) -> Result<usize, Refusal>
     requires { Running plan.now rule.now }
     ensures { Ran
         (record { plan = plan.entry.now; rows = e.rows; values = values.now; budgets = budgets_in e.allowance budgets.now; quota = quota })
@@ -138,14 +139,8 @@ fn run_plan(
         size,
         quota,
     };
-    let reply = test(l, e, budgets, values.len(), out.len(), work.len());
-    match reply {
-        Reply::Refused(f) => Reply::Refused(f),
-        Reply::Done(_) => {
-            let most = run_rows(plan, rule, l, e, budgets, values, out, work);
-            Reply::Done(most)
-        }
-    }
+    test(l, e, budgets, values.len(), out.len(), work.len())?;
+    Ok(run_rows(plan, rule, l, e, budgets, values, out, work))
 }
 
 // A batch by any budgets.
@@ -157,7 +152,7 @@ fn run_by(
     values: &[i32],
     out: &mut [i32],
     work: &mut [i32],
-) -> Reply
+) -> Result<usize, Refusal>
     ensures { Ran
         (record { plan = plan.entry.now; rows = e.rows; values = values.now; budgets = budgets_in e.allowance budgets.now; quota = quota })
         out.old
@@ -167,11 +162,8 @@ fn run_by(
         work.new }
 {
     let mut rule = [0u8; LONGEST];
-    let taken = plans::take(plan, &mut rule);
-    match taken {
-        Taken::NotPlan => refuse(15, 0),
-        Taken::Rule(_) => run_plan(plan, &rule, e, budgets, quota, values, out, work),
-    }
+    plans::take(plan, &mut rule).ok_or(Reason::NotPlan.at(0))?;
+    run_plan(plan, &rule, e, budgets, quota, values, out, work)
 }
 
 // Runs a batch: the rows' records into out, the LOOP table into work. Answers the most rounds that any row began.
@@ -183,7 +175,7 @@ pub fn run(
     quota: usize,
     out: &mut [i32],
     work: &mut [i32],
-) -> Reply
+) -> Result<usize, Refusal>
     ensures { Ran
         (record { plan = plan.entry.now; rows = rows; values = values.now; budgets = common budget; quota = quota })
         out.old
@@ -214,7 +206,7 @@ pub fn run_each(
     quota: usize,
     out: &mut [i32],
     work: &mut [i32],
-) -> Reply
+) -> Result<usize, Refusal>
     ensures { Ran
         (record { plan = plan.entry.now; rows = rows; values = values.now; budgets = each budgets.now; quota = quota })
         out.old

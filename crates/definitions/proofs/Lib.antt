@@ -1,3 +1,5 @@
+pub mod Handed
+pub mod Numbered
 pub mod Tests
 pub mod Counts
 pub mod Smallest

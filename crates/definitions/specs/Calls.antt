@@ -9,17 +9,14 @@ use Rattle.definitions.specs.Plan.{plan_of, planned}
 use Rattle.definitions.specs.Pages.{file_of, unpacked}
 use Rattle.definitions.specs.Batch.{Budgets, common, each, states_of, record_size, records_of, count_to, line_size, table_of, most_of}
 use Rattle.definitions.specs.Finder.{most_rows, most_quota}
-use Rattle.definitions.specs.declared.Reply.{Reply}
-use Rattle.definitions.specs.declared.Reply.TheVariants.{Done, Refused}
-
--- a refusal, with its number and place
-abbrev pub refusal : ℕ → ℕ → Reply
-refusal k p = Refused (record { number = k; place = p })
+use Rattle.definitions.specs.Refusals.{Reply, refusal}
+use Rattle.std.specs.Prelude.{Ok, Err}
+use Rattle.definitions.specs.declared.Reason.TheVariants.{TooLong, NoRoom, Misfit, OverLimit, NotPlan}
 
 -- a buffer after a reply: a refusal changes nothing, and what lies beyond the written part stays
 abbrev pub left : {A : Type 0} → Reply → List A → List A → List A
-left (Done n) new old = new ++ drop (length new) old
-left (Refused f) new old = old
+left (Ok n) new old = new ++ drop (length new) old
+left (Err f) new old = old
 
 -- ---- read, write and compile: bytes into one buffer
 
@@ -29,7 +26,7 @@ to_read file = then (unpacked file) (λ s _. then (rule_of s) (λ r n. got s n))
 
 -- writing: 11 comes first, then the rule
 unfoldable pub to_write : List ℕ → Got (List ℕ)
-to_write s = cond (ltb longest (length s)) (refused 11 0) (then (rule_of s) (λ r n. got (file_of s) n))
+to_write s = cond (ltb longest (length s)) (refused TooLong 0) (then (rule_of s) (λ r n. got (file_of s) n))
 
 -- compiling: as reading, but the rule's plan is written
 unfoldable pub to_compile : List ℕ → Got (List ℕ)
@@ -37,7 +34,7 @@ to_compile file = then (unpacked file) (λ s _. then (rule_of s) (λ r n. got (p
 
 -- the reply with so much room: 12 comes last, and the size written is the answer
 unfoldable pub reply_in : ℕ → Got (List ℕ) → Reply
-reply_in room (got xs n) = cond (ltb room (length xs)) (refusal 12 0) (Done (length xs))
+reply_in room (got xs n) = cond (ltb room (length xs)) (refusal NoRoom 0) (Ok (length xs))
 reply_in room (refused k p) = refusal k p
 
 unfoldable pub bytes_in : Got (List ℕ) → List ℕ
@@ -92,17 +89,17 @@ columns r = count_to r.variables (LC (flow_of r))
 -- that any row began
 unfoldable pub ran_reply : Batch → Rule → ℕ → ℕ → Reply
 ran_reply b r out_room work_room =
-    cond (ltb most_rows b.rows || (not (eqb (length b.values) (b.rows * r.arguments)) || not (as_many b.rows b.budgets))) (refusal 13 0)
-    (cond (ltb most_quota b.quota) (refusal 14 0)
-    (cond (some_over (brought b.budgets)) (refusal 14 (first_over (brought b.budgets)))
-    (cond (ltb out_room (b.rows * record_size b.quota)) (refusal 12 0)
-    (cond (ltb work_room (b.rows * line_size (columns r))) (refusal 12 1)
-    (Done (most_of (rows_of b r)))))))
+    cond (ltb most_rows b.rows || (not (eqb (length b.values) (b.rows * r.arguments)) || not (as_many b.rows b.budgets))) (refusal Misfit 0)
+    (cond (ltb most_quota b.quota) (refusal OverLimit 0)
+    (cond (some_over (brought b.budgets)) (refusal OverLimit (first_over (brought b.budgets)))
+    (cond (ltb out_room (b.rows * record_size b.quota)) (refusal NoRoom 0)
+    (cond (ltb work_room (b.rows * line_size (columns r))) (refusal NoRoom 1)
+    (Ok (most_of (rows_of b r)))))))
 
 -- 15 comes first
 unfoldable pub run_reply : Batch → Got Rule → ℕ → ℕ → Reply
 run_reply b (got r n) out_room work_room = ran_reply b r out_room work_room
-run_reply b (refused k p) out_room work_room = refusal 15 0
+run_reply b (refused k p) out_room work_room = refusal NotPlan 0
 
 -- all records, and the LOOP table
 unfoldable pub records_in : Batch → Got Rule → List Word
@@ -120,7 +117,7 @@ pub record Ran (b : Batch) (out work : List Word) (r : Reply) (out' work' : List
 
 -- ---- columns: how many columns a line has, for a caller who is to make room for lines
 unfoldable pub columns_reply : Got Rule → Reply
-columns_reply (got r n) = Done (columns r)
-columns_reply (refused k p) = refusal 15 0
+columns_reply (got r n) = Ok (columns r)
+columns_reply (refused k p) = refusal NotPlan 0
 
 -- ---- find: its contract is the definition `found_in` of Finder.antt

@@ -18,11 +18,13 @@ use Rattle.definitions.specs.Plan.{order_bytes, mask_of, entry_of, entries_to, p
 use Rattle.definitions.specs.Pages.{length_in, word_sum, check_of, page_body, page_of, pages_to, file_of, size_ok, all_zero, length_ok, page_at, payload_to, unpacked}
 use Rattle.definitions.specs.Batch.{Budgets, common, each, starts_of, map_from, states_of, record_of, records_of, count_to, columns_of, lines_from, live_of, most_of}
 use Rattle.definitions.specs.Finder.{is_number, line_index, line_part, found_in}
-use Rattle.definitions.specs.Calls.{Batch, refusal, left, to_read, to_write, to_compile, reply_in, first_over, ran_reply, run_reply, records_in, table_in}
+use Rattle.definitions.specs.Calls.{Batch, left, to_read, to_write, to_compile, reply_in, first_over, ran_reply, run_reply, records_in, table_in}
 use Rattle.definitions.specs.Examples.{R, plan_r, smallest, ran, row, words, minus, All}
-use Rattle.definitions.specs.declared.Reply.{Reply}
-use Rattle.definitions.specs.declared.Reply.TheVariants.{Done}
+use Rattle.definitions.specs.Refusals.{Reply}
 use Rattle.definitions.specs.declared.Kind.TheVariants.{ZeroDivisor, OutOfRange}
+use Rattle.std.specs.Prelude.{Ok}
+use Rattle.definitions.specs.declared.Reason.TheVariants.{FileSize, PageCheck, PageForm, BadHeader, BadTag, BadVariable, BadTarget, TooDeep, EndsEarly, BytesAfter, TooLong, NoRoom, Misfit, OverLimit, NotPlan, GotoCycle}
+use Rattle.definitions.specs.Refusals.{refusal}
 
 -- ---- short names
 
@@ -153,26 +155,26 @@ of_rules =
     -- 3: a constant's lowest byte comes first, and it has a sign
     ∷ ((expr_at 1 1 (0x01 ∷ 1 ∷ 2 ∷ 3 ∷ 4 ∷ []) 0 ≡ got (Const (pos 0x04030201)) 5) × (expr_at 1 1 (0x01 ∷ 0 ∷ 0 ∷ 0 ∷ 0x80 ∷ []) 0 ≡ got (Const (minus 2147483648)) 5))
     -- 4: form 1, v from 1 to 16, a to v, n from 1 to 64: the last of these headers is good
-    ∷ ((rule_of (2 ∷ 16 ∷ 16 ∷ 64 ∷ []) ≡ refused 4 0) × (rule_of (1 ∷ 17 ∷ 16 ∷ 64 ∷ []) ≡ refused 4 1) × (rule_of (1 ∷ 16 ∷ 17 ∷ 64 ∷ []) ≡ refused 4 2) × (rule_of (1 ∷ 16 ∷ 16 ∷ 65 ∷ []) ≡ refused 4 3) × (rule_of (1 ∷ 1 ∷ 0 ∷ 0 ∷ []) ≡ refused 4 3) × (rule_of (1 ∷ 16 ∷ 16 ∷ 64 ∷ []) ≡ refused 9 4))
+    ∷ ((rule_of (2 ∷ 16 ∷ 16 ∷ 64 ∷ []) ≡ refused BadHeader 0) × (rule_of (1 ∷ 17 ∷ 16 ∷ 64 ∷ []) ≡ refused BadHeader 1) × (rule_of (1 ∷ 16 ∷ 17 ∷ 64 ∷ []) ≡ refused BadHeader 2) × (rule_of (1 ∷ 16 ∷ 16 ∷ 65 ∷ []) ≡ refused BadHeader 3) × (rule_of (1 ∷ 1 ∷ 0 ∷ 0 ∷ []) ≡ refused BadHeader 3) × (rule_of (1 ∷ 16 ∷ 16 ∷ 64 ∷ []) ≡ refused EndsEarly 4))
     -- 5: a header that is cut, and one that is bad twice
-    ∷ ((rule_of (0xFF ∷ 0xFF ∷ []) ≡ refused 9 2) × (rule_of (0x01 ∷ 0x00 ∷ 0x09 ∷ 0x41 ∷ []) ≡ refused 4 1))
+    ∷ ((rule_of (0xFF ∷ 0xFF ∷ []) ≡ refused EndsEarly 2) × (rule_of (0x01 ∷ 0x00 ∷ 0x09 ∷ 0x41 ∷ []) ≡ refused BadHeader 1))
     -- 6: an emit's and a set's expression go to depth 8
-    ∷ ((blocks 1 (0x21 ∷ replicate 7 0x03 ++ (0x02 ∷ 0x00 ∷ 0x32 ∷ [])) ≡ got 15 15) × (blocks 1 (0x20 ∷ 0x00 ∷ replicate 7 0x03 ++ (0x02 ∷ 0x00 ∷ 0x32 ∷ [])) ≡ got 16 16) × (blocks 1 (0x21 ∷ replicate 8 0x03 ++ (0x02 ∷ 0x00 ∷ 0x32 ∷ [])) ≡ refused 8 13))
+    ∷ ((blocks 1 (0x21 ∷ replicate 7 0x03 ++ (0x02 ∷ 0x00 ∷ 0x32 ∷ [])) ≡ got 15 15) × (blocks 1 (0x20 ∷ 0x00 ∷ replicate 7 0x03 ++ (0x02 ∷ 0x00 ∷ 0x32 ∷ [])) ≡ got 16 16) × (blocks 1 (0x21 ∷ replicate 8 0x03 ++ (0x02 ∷ 0x00 ∷ 0x32 ∷ [])) ≡ refused TooDeep 13))
     -- 7: so does a condition with the expressions in it, from the start in each if
-    ∷ ((blocks 1 (branch (0x33 ∷ replicate 6 0x12 ++ (0x11 ∷ 0x02 ∷ 0x00 ∷ 0x02 ∷ 0x00 ∷ 0x32 ∷ 0x32 ∷ 0x32 ∷ []))) ≡ got 25 25) × (blocks 1 (0x33 ∷ replicate 7 0x12 ++ (0x11 ∷ 0x02 ∷ 0x00 ∷ [])) ≡ refused 8 13))
+    ∷ ((blocks 1 (branch (0x33 ∷ replicate 6 0x12 ++ (0x11 ∷ 0x02 ∷ 0x00 ∷ 0x02 ∷ 0x00 ∷ 0x32 ∷ 0x32 ∷ 0x32 ∷ []))) ≡ got 25 25) × (blocks 1 (0x33 ∷ replicate 7 0x12 ++ (0x11 ∷ 0x02 ∷ 0x00 ∷ [])) ≡ refused TooDeep 13))
     -- 8: endings go to depth 4
-    ∷ ((blocks 1 (branch (branch (branch (replicate 4 0x32)))) ≡ got 26 26) × (blocks 1 (branch (branch (branch (branch (replicate 5 0x32))))) ≡ refused 8 28))
+    ∷ ((blocks 1 (branch (branch (branch (replicate 4 0x32)))) ≡ got 26 26) × (blocks 1 (branch (branch (branch (branch (replicate 5 0x32))))) ≡ refused TooDeep 28))
     -- 9: a variable that there is not, read and set
-    ∷ ((blocks 1 (0x21 ∷ 0x02 ∷ 0x01 ∷ []) ≡ refused 6 6) × (blocks 1 (0x20 ∷ 0x01 ∷ []) ≡ refused 6 5))
+    ∷ ((blocks 1 (0x21 ∷ 0x02 ∷ 0x01 ∷ []) ≡ refused BadVariable 6) × (blocks 1 (0x20 ∷ 0x01 ∷ []) ≡ refused BadVariable 5))
     -- 10: a goto and a jump go to any block that there is
-    ∷ ((blocks 2 (0x30 ∷ 0x01 ∷ 0x31 ∷ 0x00 ∷ []) ≡ got 8 8) × (blocks 2 (0x30 ∷ 0x02 ∷ []) ≡ refused 7 5) × (blocks 2 (0x31 ∷ 0x02 ∷ []) ≡ refused 7 5))
+    ∷ ((blocks 2 (0x30 ∷ 0x01 ∷ 0x31 ∷ 0x00 ∷ []) ≡ got 8 8) × (blocks 2 (0x30 ∷ 0x02 ∷ []) ≡ refused BadTarget 5) × (blocks 2 (0x31 ∷ 0x02 ∷ []) ≡ refused BadTarget 5))
     -- 46: gotos of two blocks and of one that form a cycle, told at the lowest; a cycle that nothing leads to; the arm of an if; a jump closes no cycle; 7 and 10 come first
-    ∷ ((blocks 3 (0x32 ∷ 0x30 ∷ 0x02 ∷ 0x30 ∷ 0x01 ∷ []) ≡ refused 16 1) × (blocks 2 (0x32 ∷ 0x30 ∷ 0x01 ∷ []) ≡ refused 16 1) × (blocks 2 (branch (0x32 ∷ 0x30 ∷ 0x01 ∷ 0x30 ∷ 0x00 ∷ [])) ≡ refused 16 0)
-    × (blocks 2 (0x30 ∷ 0x01 ∷ 0x31 ∷ 0x00 ∷ []) ≡ got 8 8) × (blocks 2 (0x30 ∷ 0x00 ∷ 0x30 ∷ 0x02 ∷ []) ≡ refused 7 7) × (blocks 1 (0x30 ∷ 0x00 ∷ 0x32 ∷ []) ≡ refused 10 6))
+    ∷ ((blocks 3 (0x32 ∷ 0x30 ∷ 0x02 ∷ 0x30 ∷ 0x01 ∷ []) ≡ refused GotoCycle 1) × (blocks 2 (0x32 ∷ 0x30 ∷ 0x01 ∷ []) ≡ refused GotoCycle 1) × (blocks 2 (branch (0x32 ∷ 0x30 ∷ 0x01 ∷ 0x30 ∷ 0x00 ∷ [])) ≡ refused GotoCycle 0)
+    × (blocks 2 (0x30 ∷ 0x01 ∷ 0x31 ∷ 0x00 ∷ []) ≡ got 8 8) × (blocks 2 (0x30 ∷ 0x00 ∷ 0x30 ∷ 0x02 ∷ []) ≡ refused BadTarget 7) × (blocks 1 (0x30 ∷ 0x00 ∷ 0x32 ∷ []) ≡ refused BytesAfter 6))
     -- 11: a constant that is cut, and bytes after the last block
-    ∷ ((expr_at 1 1 (0x01 ∷ 0 ∷ []) 0 ≡ refused 9 2) × (blocks 1 (0x32 ∷ 0x32 ∷ []) ≡ refused 10 5))
+    ∷ ((expr_at 1 1 (0x01 ∷ 0 ∷ []) 0 ≡ refused EndsEarly 2) × (blocks 1 (0x32 ∷ 0x32 ∷ []) ≡ refused BytesAfter 5))
     -- 12: at one place 9 goes before 8, and 8 before 5
-    ∷ ((expr_at 0 1 [] 0 ≡ refused 9 0) × (expr_at 0 1 (0xFF ∷ []) 0 ≡ refused 8 0) × (expr_at 1 1 (0xFF ∷ []) 0 ≡ refused 5 0) × (cond_at 0 1 (0xFF ∷ []) 0 ≡ refused 8 0) × (cond_at 1 1 (0xFF ∷ []) 0 ≡ refused 5 0) × (end_at 1 1 1 (0xFF ∷ []) 0 ≡ refused 5 0))
+    ∷ ((expr_at 0 1 [] 0 ≡ refused EndsEarly 0) × (expr_at 0 1 (0xFF ∷ []) 0 ≡ refused TooDeep 0) × (expr_at 1 1 (0xFF ∷ []) 0 ≡ refused BadTag 0) × (cond_at 0 1 (0xFF ∷ []) 0 ≡ refused TooDeep 0) × (cond_at 1 1 (0xFF ∷ []) 0 ≡ refused BadTag 0) × (end_at 1 1 1 (0xFF ∷ []) 0 ≡ refused BadTag 0))
     ∷ []
 
 pub rules_hold : All of_rules
@@ -253,16 +255,16 @@ of_columns =
     -- 25, bytes: a rule whose block 1 is dead: its plan has masks 0 everywhere; the plan that counts every block, as document 01 had it, has LC 2 and is 15 now
     ∷ ((then (rule_of dead_end) (λ r n. got (plan_of r dead_end) n) ≡ got dead_end_plan 10)
     × (then (rule_of dead_end) (λ r n. got (plan_by (flow_over (λ _. true) r) r dead_end) n) ≡ got dead_end_before 10)
-    × (planned dead_end_before ≡ refused 15 0))
+    × (planned dead_end_before ≡ refused NotPlan 0))
     -- 47: block 0 goes to 2 and 2 back to 1: the order 0, 2, 1 stands between the entries and the bodies, and counts in their offsets; a plan without it, or in another order, is none
     ∷ ((then (rule_of going_back) (λ r n. got (plan_of r going_back) n) ≡ got going_back_plan 9) × (planned going_back_plan ≡ rule_of going_back)
-    × (planned going_back_unordered ≡ refused 15 0) × (planned (take 31 going_back_plan ++ (1 ∷ 2 ∷ drop 33 going_back_plan)) ≡ refused 15 0))
+    × (planned going_back_unordered ≡ refused NotPlan 0) × (planned (take 31 going_back_plan ++ (1 ∷ 2 ∷ drop 33 going_back_plan)) ≡ refused NotPlan 0))
     -- 47, dead blocks: a goto back in a dead block only asks for the order too, and counts in it
     ∷ (then (rule_of dead_back) (λ r n. got (order_bytes r) n) ≡ got (0 ∷ 2 ∷ 1 ∷ []) 8)
     -- 47, cycles: what would be the plan of a rule with a cycle is none: of two blocks, and of one that goes to itself
-    ∷ ((then (parsed turning) (λ r n. planned (plan_of r turning)) ≡ refused 15 0) × (planned (take 14 smallest_plan ++ (0x30 ∷ 0 ∷ [])) ≡ refused 15 0))
+    ∷ ((then (parsed turning) (λ r n. planned (plan_of r turning)) ≡ refused NotPlan 0) × (planned (take 14 smallest_plan ++ (0x30 ∷ 0 ∷ [])) ≡ refused NotPlan 0))
     -- 26: no plan: another mask, a byte more, a rule that is too long
-    ∷ ((planned (take 4 plan_r ++ (1 ∷ drop 5 plan_r)) ≡ refused 15 0) × (planned (plan_r ++ (0 ∷ [])) ≡ refused 15 0) × ((p : List ℕ) (r : Rule) → as_plan p (got r 4065) ≡ refused 15 0))
+    ∷ ((planned (take 4 plan_r ++ (1 ∷ drop 5 plan_r)) ≡ refused NotPlan 0) × (planned (plan_r ++ (0 ∷ [])) ≡ refused NotPlan 0) × ((p : List ℕ) (r : Rule) → as_plan p (got r 4065) ≡ refused NotPlan 0))
     ∷ []
 
 pub columns_hold : All of_columns
@@ -276,13 +278,13 @@ columns_hold =
 pub of_files : List (Type 0)
 of_files =
     -- 27: a file is 1 to 8 whole pages, and else 1
-    ((unpacked [] ≡ refused 1 0) × (size_ok 768 ≡ false) × (size_ok 512 ≡ true) × (size_ok 4096 ≡ true) × (size_ok 4608 ≡ false))
+    ((unpacked [] ≡ refused FileSize 0) × (size_ok 768 ≡ false) × (size_ok 512 ≡ true) × (size_ok 4096 ≡ true) × (size_ok 4608 ≡ false))
     -- 28: the last page holds 1 to 508 bytes, every other 508
     ∷ ((length_ok true 0 ≡ false) × (length_ok true 1 ≡ true) × (length_ok true 508 ≡ true) × (length_ok true 509 ≡ false) × (length_ok false 507 ≡ false) × (length_ok false 508 ≡ true))
     -- 29: a page of length 0 that is right otherwise; as page 1 its check is wrong too, and 2 comes first
-    ∷ ((page_at true (replicate 509 0 ++ (1 ∷ 0 ∷ 1 ∷ [])) 0 ≡ refused 3 0) × (page_at true (replicate 509 0 ++ (1 ∷ 0 ∷ 1 ∷ [])) 1 ≡ refused 2 1))
+    ∷ ((page_at true (replicate 509 0 ++ (1 ∷ 0 ∷ 1 ∷ [])) 0 ≡ refused PageForm 0) × (page_at true (replicate 509 0 ++ (1 ∷ 0 ∷ 1 ∷ [])) 1 ≡ refused PageCheck 1))
     -- 30: a byte after the payload, with a check that is right
-    ∷ (page_at true (1 ∷ 0 ∷ 7 ∷ 1 ∷ replicate 506 0 ++ (8 ∷ 1 ∷ [])) 0 ≡ refused 3 0)
+    ∷ (page_at true (1 ∷ 0 ∷ 7 ∷ 1 ∷ replicate 506 0 ++ (8 ∷ 1 ∷ [])) 0 ≡ refused PageForm 0)
     -- 31: byte 509 begins a page
     ∷ ((length (file_of (replicate 508 0)) ≡ 512) × (take 3 (drop 512 (file_of (replicate 508 0 ++ (9 ∷ [])))) ≡ 1 ∷ 0 ∷ 9 ∷ []))
     ∷ []
@@ -297,15 +299,15 @@ files_hold =
 pub of_batch : List (Type 0)
 of_batch =
     -- 32: a row that has ended begins no further round
-    (ran (row 9 4) ≡ (Done 3, (words (1 ∷ 3 ∷ 2 ∷ 0 ∷ 2 ∷ 3 ∷ 0 ∷ 0 ∷ []), words (replicate 5 0))))
+    (ran (row 9 4) ≡ (Ok 3, (words (1 ∷ 3 ∷ 2 ∷ 0 ∷ 2 ∷ 3 ∷ 0 ∷ 0 ∷ []), words (replicate 5 0))))
     -- 33: rows 2, 0, -5, as the program has them: each row has its own labels, and the most rounds are no sum
-    ∷ (ran (rows (pos 2 ∷ pos 0 ∷ minus 5 ∷ [])) ≡ (Done 2, (words (0 ∷ 2 ∷ 1 ∷ 0 ∷ 2 ∷ 0 ∷ 0 ∷ 0 ∷ 1 ∷ 1 ∷ 2 ∷ 0 ∷ 0 ∷ 0 ∷ 0 ∷ 0 ∷ []) ++ (pos 1 ∷ pos 1 ∷ pos 2 ∷ pos 0 ∷ minus 5 ∷ words (0 ∷ 0 ∷ 0 ∷ [])), words (0 ∷ 1 ∷ 2 ∷ 0 ∷ 3 ∷ replicate 10 0))))
+    ∷ (ran (rows (pos 2 ∷ pos 0 ∷ minus 5 ∷ [])) ≡ (Ok 2, (words (0 ∷ 2 ∷ 1 ∷ 0 ∷ 2 ∷ 0 ∷ 0 ∷ 0 ∷ 1 ∷ 1 ∷ 2 ∷ 0 ∷ 0 ∷ 0 ∷ 0 ∷ 0 ∷ []) ++ (pos 1 ∷ pos 1 ∷ pos 2 ∷ pos 0 ∷ minus 5 ∷ words (0 ∷ 0 ∷ 0 ∷ [])), words (0 ∷ 1 ∷ 2 ∷ 0 ∷ 3 ∷ replicate 10 0))))
     -- 34: a line has its row's number; no rows began no rounds
-    ∷ ((table_in (rows (pos 0 ∷ pos 2 ∷ [])) (planned plan_r) ≡ words (1 ∷ 1 ∷ 2 ∷ 0 ∷ 3 ∷ replicate 5 0)) × (ran (rows []) ≡ (Done 0, ([], []))))
+    ∷ ((table_in (rows (pos 0 ∷ pos 2 ∷ [])) (planned plan_r) ≡ words (1 ∷ 1 ∷ 2 ∷ 0 ∷ 3 ∷ replicate 5 0)) × (ran (rows []) ≡ (Ok 0, ([], []))))
     -- 35: a row's fault leaves the row after it alone
     ∷ (records_of 1 (states_of divides (pos 0 ∷ pos 3 ∷ []) 2 (common 1) 1) ≡ words (2 ∷ 1 ∷ 0 ∷ 5 ∷ 0 ∷ 1 ∷ 1 ∷ 1 ∷ 0 ∷ 2 ∷ []))
     -- 44: arguments 2 and 2 under budgets 2 and 3: the first row is unfinished, the second has ended
-    ∷ (ran (rows_by (each (2 ∷ 3 ∷ [])) (pos 2 ∷ pos 2 ∷ [])) ≡ (Done 3, (words (0 ∷ 2 ∷ 1 ∷ 0 ∷ 2 ∷ 0 ∷ 0 ∷ 0 ∷ 1 ∷ 3 ∷ 2 ∷ 0 ∷ 2 ∷ 3 ∷ 0 ∷ 0 ∷ []), words (0 ∷ 1 ∷ 2 ∷ 0 ∷ 3 ∷ replicate 5 0))))
+    ∷ (ran (rows_by (each (2 ∷ 3 ∷ [])) (pos 2 ∷ pos 2 ∷ [])) ≡ (Ok 3, (words (0 ∷ 2 ∷ 1 ∷ 0 ∷ 2 ∷ 0 ∷ 0 ∷ 0 ∷ 1 ∷ 3 ∷ 2 ∷ 0 ∷ 2 ∷ 3 ∷ 0 ∷ 0 ∷ []), words (0 ∷ 1 ∷ 2 ∷ 0 ∷ 3 ∷ replicate 5 0))))
     ∷ []
 
 pub batch_hold : All of_batch
@@ -338,18 +340,18 @@ finder_hold =
 pub of_replies : List (Type 0)
 of_replies =
     -- 39: the writer's 11 comes before all else
-    ((to_write (replicate 4064 0) ≡ refused 4 0) × (to_write (replicate 4065 0) ≡ refused 11 0))
+    ((to_write (replicate 4064 0) ≡ refused BadHeader 0) × (to_write (replicate 4065 0) ≡ refused TooLong 0))
     -- 40: what is written, with just enough room and one byte less: 12 at 0
-    ∷ ((to_read (file_of R) ≡ got R 45) × (to_compile (file_of R) ≡ got plan_r 45) × (reply_in 512 (to_write R) ≡ Done 512) × (reply_in 511 (to_write R) ≡ refusal 12 0))
+    ∷ ((to_read (file_of R) ≡ got R 45) × (to_compile (file_of R) ≡ got plan_r 45) × (reply_in 512 (to_write R) ≡ Ok 512) × (reply_in 511 (to_write R) ≡ refusal NoRoom 0))
     -- 41: running: up to 256 rows, budget 65535 and quota 16, and as many values as the rows take
-    ∷ ((asked 256 65535 16 0 0 ≡ refusal 12 0) × (asked 257 0 0 0 0 ≡ refusal 13 0) × (asked 1 65536 0 0 0 ≡ refusal 14 0) × (asked 1 0 17 0 0 ≡ refusal 14 0) × (run_reply (record { plan = plan_r; rows = 2; values = pos 1 ∷ []; budgets = common 0; quota = 0 }) (planned plan_r) 100 100 ≡ refusal 13 0))
+    ∷ ((asked 256 65535 16 0 0 ≡ refusal NoRoom 0) × (asked 257 0 0 0 0 ≡ refusal Misfit 0) × (asked 1 65536 0 0 0 ≡ refusal OverLimit 0) × (asked 1 0 17 0 0 ≡ refusal OverLimit 0) × (run_reply (record { plan = plan_r; rows = 2; values = pos 1 ∷ []; budgets = common 0; quota = 0 }) (planned plan_r) 100 100 ≡ refusal Misfit 0))
     -- 42: running: 15, 13, 14, 12 for the output, 12 for the working buffer
-    ∷ ((run_reply (record { plan = []; rows = 257; values = []; budgets = common 65536; quota = 17 }) (planned []) 0 0 ≡ refusal 15 0) × (asked 257 65536 17 0 0 ≡ refusal 13 0) × (asked 256 65536 17 0 0 ≡ refusal 14 0) × (asked 1 1 0 3 0 ≡ refusal 12 0) × (asked 1 1 0 4 2 ≡ refusal 12 1) × (asked 1 1 0 4 3 ≡ Done 1))
+    ∷ ((run_reply (record { plan = []; rows = 257; values = []; budgets = common 65536; quota = 17 }) (planned []) 0 0 ≡ refusal NotPlan 0) × (asked 257 65536 17 0 0 ≡ refusal Misfit 0) × (asked 256 65536 17 0 0 ≡ refusal OverLimit 0) × (asked 1 1 0 3 0 ≡ refusal NoRoom 0) × (asked 1 1 0 4 2 ≡ refusal NoRoom 1) × (asked 1 1 0 4 3 ≡ Ok 1))
     -- 45: with a budget for each row: 13 unless they are as many, also for none; 14 at 0 for the quota, then at the lowest row whose budget is too high
-    ∷ ((asked_by (each (1 ∷ [])) 2 17 100 100 ≡ refusal 13 0) × (asked_by (each (1 ∷ 1 ∷ 1 ∷ [])) 2 0 100 100 ≡ refusal 13 0) × (asked_by (each []) 0 0 0 0 ≡ Done 0) × (asked_by (each (1 ∷ 65536 ∷ 65536 ∷ [])) 3 17 0 0 ≡ refusal 14 0)
-    × (asked_by (each (65535 ∷ 65536 ∷ 65536 ∷ [])) 3 16 0 0 ≡ refusal 14 1) × (asked_by (each (1 ∷ 0 ∷ [])) 2 0 8 6 ≡ Done 1) × (asked 0 65536 0 0 0 ≡ refusal 14 0))
+    ∷ ((asked_by (each (1 ∷ [])) 2 17 100 100 ≡ refusal Misfit 0) × (asked_by (each (1 ∷ 1 ∷ 1 ∷ [])) 2 0 100 100 ≡ refusal Misfit 0) × (asked_by (each []) 0 0 0 0 ≡ Ok 0) × (asked_by (each (1 ∷ 65536 ∷ 65536 ∷ [])) 3 17 0 0 ≡ refusal OverLimit 0)
+    × (asked_by (each (65535 ∷ 65536 ∷ 65536 ∷ [])) 3 16 0 0 ≡ refusal OverLimit 1) × (asked_by (each (1 ∷ 0 ∷ [])) 2 0 8 6 ≡ Ok 1) × (asked 0 65536 0 0 0 ≡ refusal OverLimit 0))
     -- 43: a refusal changes no buffer, and what lies beyond the written part stays
-    ∷ ((left (refusal 12 0) (words (1 ∷ 2 ∷ [])) (words (7 ∷ 8 ∷ 9 ∷ [])) ≡ words (7 ∷ 8 ∷ 9 ∷ [])) × (left (Done 2) (words (1 ∷ 2 ∷ [])) (words (7 ∷ 8 ∷ 9 ∷ [])) ≡ words (1 ∷ 2 ∷ 9 ∷ [])))
+    ∷ ((left (refusal NoRoom 0) (words (1 ∷ 2 ∷ [])) (words (7 ∷ 8 ∷ 9 ∷ [])) ≡ words (7 ∷ 8 ∷ 9 ∷ [])) × (left (Ok 2) (words (1 ∷ 2 ∷ [])) (words (7 ∷ 8 ∷ 9 ∷ [])) ≡ words (1 ∷ 2 ∷ 9 ∷ [])))
     ∷ []
 
 pub replies_hold : All of_replies

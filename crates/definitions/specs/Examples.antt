@@ -15,9 +15,10 @@ use Rattle.definitions.specs.Plan.{order_bytes, mask_of, entry_of, entries_to, p
 use Rattle.definitions.specs.Pages.{word_sum, check_of, page_body, page_of, pages_to, file_of}
 use Rattle.definitions.specs.Batch.{common, starts_of, map_from, records_of, count_to, columns_of, lines_from, live_of, most_of}
 use Rattle.definitions.specs.Calls.{Batch, to_write, first_over, ran_reply, run_reply, records_in, table_in}
-use Rattle.definitions.specs.declared.Reply.{Reply}
-use Rattle.definitions.specs.declared.Reply.TheVariants.{Done}
+use Rattle.definitions.specs.Refusals.{Reply}
 use Rattle.definitions.specs.declared.Kind.TheVariants.{OutOfRange}
+use Rattle.std.specs.Prelude.{Ok}
+use Rattle.definitions.specs.declared.Reason.TheVariants.{EndsEarly, GotoCycle}
 
 -- rule R: 45 bytes
 abbrev pub R : List ℕ
@@ -103,11 +104,11 @@ examples =
     -- E2: LC, inputs, outputs, J, bodies and size, all in the plan's bytes
     ∷ ((plan_for R ≡ got plan_r 45) × (length plan_r ≡ 79))
     -- E3: argument 2, budget 2, quota 4
-    ∷ (ran (row 2 4) ≡ (Done 2, (words (0 ∷ 2 ∷ 1 ∷ 0 ∷ 2 ∷ 0 ∷ 0 ∷ 0 ∷ []), words (0 ∷ 1 ∷ 2 ∷ 0 ∷ 3 ∷ []))))
+    ∷ (ran (row 2 4) ≡ (Ok 2, (words (0 ∷ 2 ∷ 1 ∷ 0 ∷ 2 ∷ 0 ∷ 0 ∷ 0 ∷ []), words (0 ∷ 1 ∷ 2 ∷ 0 ∷ 3 ∷ []))))
     -- E4: the same with budget 3
-    ∷ (ran (row 3 4) ≡ (Done 3, (words (1 ∷ 3 ∷ 2 ∷ 0 ∷ 2 ∷ 3 ∷ 0 ∷ 0 ∷ []), words (0 ∷ 0 ∷ 0 ∷ 0 ∷ 0 ∷ []))))
+    ∷ (ran (row 3 4) ≡ (Ok 3, (words (1 ∷ 3 ∷ 2 ∷ 0 ∷ 2 ∷ 3 ∷ 0 ∷ 0 ∷ []), words (0 ∷ 0 ∷ 0 ∷ 0 ∷ 0 ∷ []))))
     -- E5: budget 0
-    ∷ (ran (row 0 4) ≡ (Done 0, (words (0 ∷ 0 ∷ 0 ∷ 0 ∷ 0 ∷ 0 ∷ 0 ∷ 0 ∷ []), words (0 ∷ 0 ∷ 0 ∷ 2 ∷ 0 ∷ []))))
+    ∷ (ran (row 0 4) ≡ (Ok 0, (words (0 ∷ 0 ∷ 0 ∷ 0 ∷ 0 ∷ 0 ∷ 0 ∷ 0 ∷ []), words (0 ∷ 0 ∷ 0 ∷ 2 ∷ 0 ∷ []))))
     -- E6: -7 by 2
     ∷ ((quotient (minus 7) (pos 2) ≡ value (minus 3)) × (remainder (minus 7) (pos 2) ≡ value (minus 1)))
     -- E7: the least value by -1
@@ -117,11 +118,11 @@ examples =
     -- E9: a guarded division by 0 does not fault
     ∷ (then (expr_at 8 0 guarded 0) (λ e n. got (eval e (at_byte 0) []) n) ≡ got (value (number (pos 5))) 28)
     -- E10: with quota 0 the fault of an emit's expression comes first
-    ∷ (ran (record { plan = emits_fault_plan; rows = 1; values = []; budgets = common 1; quota = 0 }) ≡ (Done 1, (words (2 ∷ 1 ∷ 0 ∷ 5 ∷ []), words (0 ∷ 0 ∷ 0 ∷ []))))
+    ∷ (ran (record { plan = emits_fault_plan; rows = 1; values = []; budgets = common 1; quota = 0 }) ≡ (Ok 1, (words (2 ∷ 1 ∷ 0 ∷ 5 ∷ []), words (0 ∷ 0 ∷ 0 ∷ []))))
     -- E11: the smallest rule, and without its last byte
-    ∷ ((length smallest ≡ 5) × (then (rule_of smallest) (λ r n. got n n) ≡ got 5 5) × (to_write (take 4 smallest) ≡ refused 9 4))
+    ∷ ((length smallest ≡ 5) × (then (rule_of smallest) (λ r n. got n n) ≡ got 5 5) × (to_write (take 4 smallest) ≡ refused EndsEarly 4))
     -- E12: a goto to its own block is a cycle (K5); with a jump it is accepted, and unfinished under every budget
-    ∷ ((rule_of (0x01 ∷ 0x01 ∷ 0x00 ∷ 0x01 ∷ 0x30 ∷ 0x00 ∷ []) ≡ refused 16 0) × (rule_of (0x01 ∷ 0x01 ∷ 0x00 ∷ 0x01 ∷ 0x31 ∷ 0x00 ∷ []) ≡ got endless 6)
+    ∷ ((rule_of (0x01 ∷ 0x01 ∷ 0x00 ∷ 0x01 ∷ 0x30 ∷ 0x00 ∷ []) ≡ refused GotoCycle 0) × (rule_of (0x01 ∷ 0x01 ∷ 0x00 ∷ 0x01 ∷ 0x31 ∷ 0x00 ∷ []) ≡ got endless 6)
     × ((q n : ℕ) → (after endless q n (start endless [])).finish.status ≡ 0))
     ∷ []
 

@@ -5,13 +5,15 @@ use Rattle.definitions.specs.Rule.{Operator, Add, Subtract, Multiply, Divide, Re
 use Rattle.definitions.specs.Rule.{Expr, Cond, Const, Var, Neg, Op, Case, Compare, Not, Join, Stmt, Set, Emit, End, Goto, Jump, Stop, If, Block, Rule, size}
 use Rattle.definitions.specs.Paths.{goto_in}
 use Rattle.definitions.specs.Cycles.{cycle_of}
-use Rattle.definitions.specs.declared.Read.{Read}
-use Rattle.definitions.specs.declared.Read.TheVariants.{Next, Refused}
+use Rattle.definitions.specs.Refusals.{Reply, refusal}
+use Rattle.std.specs.Prelude.{Ok}
+use Rattle.definitions.specs.declared.Reason.{Reason}
+use Rattle.definitions.specs.declared.Reason.TheVariants.{BadHeader, BadTag, BadVariable, BadTarget, TooDeep, EndsEarly, BytesAfter, GotoCycle}
 
--- what stands at a place, and the place after it; or a refusal's number and place
+-- what stands at a place, and the place after it; or why and where it is refused
 pub data Got (A : Type 0) : Type 0 where
   got : A → ℕ → Got A
-  refused : ℕ → ℕ → Got A
+  refused : Reason → ℕ → Got A
 
 -- what comes after goes on at the next place; the first refusal stands
 abbrev pub then : {A B : Type 0} → Got A → (A → ℕ → Got B) → Got B
@@ -19,16 +21,13 @@ then (got a n) f = f a n
 then (refused k p) f = refused k p
 
 -- the answer of the code for each case
-abbrev pub misread : ℕ → ℕ → Read
-misread k p = Refused (record { number = k; place = p })
-
-unfoldable pub read_of : {A : Type 0} → Got A → Read
-read_of (got a n) = Next n
-read_of (refused k p) = misread k p
+unfoldable pub read_of : {A : Type 0} → Got A → Reply
+read_of (got a n) = Ok n
+read_of (refused k p) = refusal k p
 
 -- the byte at a place; 9 where the rule ends early, its place the rule's length
 abbrev pub byte_at : List ℕ → ℕ → Got ℕ
-byte_at s at = cond (ltb at (length s)) (got (get_or s at 0) (at + 1)) (refused 9 (length s))
+byte_at s at = cond (ltb at (length s)) (got (get_or s at 0) (at + 1)) (refused EndsEarly (length s))
 
 -- one of a kind, and two of a kind one after the other
 abbrev pub one : {A B : Type 0} → (A → B) → (ℕ → Got A) → ℕ → Got B
@@ -52,17 +51,17 @@ constant_in s at = twos (word_of (get_or s at 0) (get_or s (at + 1) 0) (get_or s
 
 -- a constant's four bytes
 abbrev pub constant_at : List ℕ → ℕ → Got ℤ
-constant_at s at = cond (leb (at + 4) (length s)) (got (constant_in s at) (at + 4)) (refused 9 (length s))
+constant_at s at = cond (leb (at + 4) (length s)) (got (constant_in s at) (at + 4)) (refused EndsEarly (length s))
 
--- a byte that names one of so many; else it is refused with this number: 6 for a variable, 7 for a block
-abbrev pub below_at : ℕ → ℕ → List ℕ → ℕ → Got ℕ
-below_at high number s at = then (byte_at s at) (λ k n. cond (ltb k high) (got k n) (refused number at))
+-- a byte that names one of so many; else it is refused for this reason: 6 for a variable, 7 for a block
+abbrev pub below_at : ℕ → Reason → List ℕ → ℕ → Got ℕ
+below_at high why s at = then (byte_at s at) (λ k n. cond (ltb k high) (got k n) (refused why at))
 
 abbrev pub variable_at : ℕ → List ℕ → ℕ → Got ℕ
-variable_at v s at = below_at v 6 s at
+variable_at v s at = below_at v BadVariable s at
 
 abbrev pub target_at : ℕ → List ℕ → ℕ → Got ℕ
-target_at n s at = below_at n 7 s at
+target_at n s at = below_at n BadTarget s at
 
 -- ---- the tags
 
@@ -116,22 +115,22 @@ expr_body var_tag v s E C at = one Var (variable_at v s) (at + 1)
 expr_body neg_tag v s E C at = one Neg E (at + 1)
 expr_body (op_tag o) v s E C at = two (Op o) E (at + 1)
 expr_body case_tag v s E C at = then (C (at + 1)) (λ c n. two (Case c) E n)
-expr_body bad_expr v s E C at = refused 5 at
+expr_body bad_expr v s E C at = refused BadTag at
 
 abbrev pub cond_body : CondTag → (ℕ → Got Expr) → (ℕ → Got Cond) → ℕ → Got Cond
 cond_body (compare_tag r) E C at = two (Compare r) E (at + 1)
 cond_body not_tag E C at = one Not C (at + 1)
 cond_body (join_tag j) E C at = two (Join j) C (at + 1)
-cond_body bad_cond E C at = refused 5 at
+cond_body bad_cond E C at = refused BadTag at
 
 -- the expression, or the condition, at a place: so many levels may still stand there, and there are v variables. At one place 9 goes before 8, and 8 before 5
 unfoldable mutual
   pub expr_at : ℕ → ℕ → List ℕ → ℕ → Got Expr
-  expr_at zero v s at = then (byte_at s at) (λ t _. refused 8 at)
+  expr_at zero v s at = then (byte_at s at) (λ t _. refused TooDeep at)
   expr_at (suc d) v s at = then (byte_at s at) (λ t _. expr_body (expr_tag t) v s (λ n. expr_at d v s n) (λ n. cond_at d v s n) at)
 
   pub cond_at : ℕ → ℕ → List ℕ → ℕ → Got Cond
-  cond_at zero v s at = then (byte_at s at) (λ t _. refused 8 at)
+  cond_at zero v s at = then (byte_at s at) (λ t _. refused TooDeep at)
   cond_at (suc d) v s at = then (byte_at s at) (λ t _. cond_body (cond_tag t) (λ n. expr_at d v s n) (λ n. cond_at d v s n) at)
 
 -- eight levels for both kinds taken together; a statement's expression and an if's condition begin again at the first
@@ -153,11 +152,11 @@ end_body goto_tag n v s E at = one Goto (target_at n s) (at + 1)
 end_body jump_tag n v s E at = one Jump (target_at n s) (at + 1)
 end_body stop_tag n v s E at = got Stop (at + 1)
 end_body if_tag n v s E at = then (cond_at depth v s (at + 1)) (λ c m. two (If c) E m)
-end_body bad_end n v s E at = refused 5 at
+end_body bad_end n v s E at = refused BadTag at
 
 -- the ending at a place, where so many levels may still stand
 unfoldable pub end_at : ℕ → ℕ → ℕ → List ℕ → ℕ → Got End
-end_at zero n v s at = then (byte_at s at) (λ t _. refused 8 at)
+end_at zero n v s at = then (byte_at s at) (λ t _. refused TooDeep at)
 end_at (suc d) n v s at = then (byte_at s at) (λ t _. end_body (end_tag t) n v s (λ m. end_at d n v s m) at)
 
 -- endings go to depth 4
@@ -176,7 +175,7 @@ block_body no_stmt n v s B at = one (λ e. record { body = []; ending = e }) (en
 
 -- the block at a place. The first number bounds how many statements are read: each takes a byte, so the rule's length is enough
 unfoldable pub block_from : ℕ → ℕ → ℕ → List ℕ → ℕ → Got Block
-block_from zero n v s at = refused 9 (length s)
+block_from zero n v s at = refused EndsEarly (length s)
 block_from (suc f) n v s at = block_body (stmt_tag (get_or s at 0)) n v s (λ m. block_from f n v s m) at
 
 abbrev pub block_at : ℕ → ℕ → List ℕ → ℕ → Got Block
@@ -215,16 +214,16 @@ between low high x = leb low x && leb x high
 -- what follows the header is read only where the header is good
 unfoldable pub headed : {A : Type 0} → List ℕ → Got A → Got A
 headed s rest =
-    cond (ltb (length s) 4) (refused 9 (length s))
-    (cond (not (eqb (form_in s) 1)) (refused 4 0)
-    (cond (not (between 1 most_variables (variables_in s))) (refused 4 1)
-    (cond (not (leb (arguments_in s) (variables_in s))) (refused 4 2)
-    (cond (not (between 1 most_blocks (blocks_in s))) (refused 4 3)
+    cond (ltb (length s) 4) (refused EndsEarly (length s))
+    (cond (not (eqb (form_in s) 1)) (refused BadHeader 0)
+    (cond (not (between 1 most_variables (variables_in s))) (refused BadHeader 1)
+    (cond (not (leb (arguments_in s) (variables_in s))) (refused BadHeader 2)
+    (cond (not (between 1 most_blocks (blocks_in s))) (refused BadHeader 3)
     rest))))
 
 -- the whole of the bytes; 10 at the first byte after the last block
 abbrev pub whole_rule : List ℕ → List Block → ℕ → Got Rule
-whole_rule s bs n = cond (ltb n (length s)) (refused 10 n) (got (record { form = form_in s; variables = variables_in s; arguments = arguments_in s; blocks = bs }) n)
+whole_rule s bs n = cond (ltb n (length s)) (refused BytesAfter n) (got (record { form = form_in s; variables = variables_in s; arguments = arguments_in s; blocks = bs }) n)
 
 -- the bytes read to their end, as a tree
 unfoldable pub parsed : List ℕ → Got Rule
@@ -232,7 +231,7 @@ parsed s = headed s (then (blocks_to (blocks_in s) (variables_in s) s (blocks_in
 
 -- 02, K5: 16 where the gotos form a cycle, at the lowest block on one
 abbrev pub uncycled : Rule → ℕ → Got Rule
-uncycled r n = cond (ltb (cycle_of (size r) (goto_in r)) (size r)) (refused 16 (cycle_of (size r) (goto_in r))) (got r n)
+uncycled r n = cond (ltb (cycle_of (size r) (goto_in r)) (size r)) (refused GotoCycle (cycle_of (size r) (goto_in r))) (got r n)
 
 unfoldable pub rule_of : List ℕ → Got Rule
 rule_of s = then (parsed s) uncycled

@@ -1,5 +1,6 @@
 pub mod Values
 pub mod Rule
+pub mod Refusals
 pub mod Grammar
 pub mod Spelling
 pub mod Limits

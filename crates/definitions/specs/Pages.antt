@@ -2,6 +2,7 @@
 use Rattle.std.specs.Prelude.{ℕ, zero, suc, ◌+◌, ◌-◌, ◌*◌, ◌/◌, ◌%◌, Bool, true, false, cond, not, ◌&&◌, List, [], ◌∷◌, ◌++◌, eqb, ltb, length, take, drop, replicate}
 use Rattle.definitions.specs.Grammar.{Got, got, refused, then, between}
 use Rattle.definitions.specs.Plan.{le16}
+use Rattle.definitions.specs.declared.Reason.TheVariants.{FileSize, PageCheck, PageForm}
 pub use Rattle.definitions.specs.Plan.{word_at}
 
 abbrev pub most_pages : ℕ
@@ -91,8 +92,8 @@ filler_ok p = all_zero (drop (length_in p + 2) (take check_place p))
 -- page k, the last or not: its payload and the number of the next page; 2 if its check is wrong, then 3 if its length or filler is
 unfoldable pub page_at : Bool → List ℕ → ℕ → Got (List ℕ)
 page_at last p k =
-    cond (not (eqb (check_in p) (check_of k p))) (refused 2 k)
-    (cond (not (length_ok last (length_in p) && filler_ok p)) (refused 3 k)
+    cond (not (eqb (check_in p) (check_of k p))) (refused PageCheck k)
+    (cond (not (length_ok last (length_in p) && filler_ok p)) (refused PageForm k)
     (got (payload_of p) (k + 1)))
 
 -- what the first k of so many pages hold; each page is checked before the next
@@ -106,4 +107,4 @@ size_ok n = not (eqb n 0) && (not (ltb (most_pages * page_size) n) && eqb (n % p
 
 -- what a file holds: 1 where its length is wrong, then what its pages say
 unfoldable pub unpacked : List ℕ → Got (List ℕ)
-unpacked file = cond (size_ok (length file)) (payload_to file (length file / page_size) (length file / page_size)) (refused 1 0)
+unpacked file = cond (size_ok (length file)) (payload_to file (length file / page_size) (length file / page_size)) (refused FileSize 0)

@@ -5,6 +5,7 @@ use Rattle.definitions.specs.Grammar.{Got, got, refused, blocks_to, rule_of, lon
 use Rattle.definitions.specs.Columns.{Flow, flow_of, J, inputs_of, outputs_of, LC}
 use Rattle.definitions.specs.Paths.{goto_in}
 use Rattle.definitions.specs.Order.{order_of, goes_back}
+use Rattle.definitions.specs.declared.Reason.TheVariants.{NotPlan}
 
 -- sixteen bits as two bytes, the lower first
 abbrev pub le16 : ℕ → List ℕ
@@ -88,8 +89,8 @@ carried p = take 4 p ++ drop (bodies_at p) p
 
 -- accepted exactly if that is a rule, of a rule's length, and compiles to these bytes; 15 if not
 abbrev pub as_plan : List ℕ → Got Rule → Got Rule
-as_plan p (got r n) = cond (leb n longest && same (plan_of r (carried p)) p) (got r n) (refused 15 0)
-as_plan p (refused k at) = refused 15 0
+as_plan p (got r n) = cond (leb n longest && same (plan_of r (carried p)) p) (got r n) (refused NotPlan 0)
+as_plan p (refused k at) = refused NotPlan 0
 
 unfoldable pub planned : List ℕ → Got Rule
 planned p = as_plan p (rule_of (carried p))

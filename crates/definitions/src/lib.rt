@@ -3,9 +3,8 @@
 
 ghost use Rattle.std.specs.Prelude.{◌≡◌};
 ghost use Rattle.definitions.specs.Values.{kind_number};
-ghost use Rattle.definitions.specs.Grammar.{misread};
 ghost use Rattle.definitions.specs.Direct.{unfinished, stopped, faulted, quota_full, goes_on};
-ghost use Rattle.definitions.specs.Calls.{refusal};
+ghost use Rattle.definitions.specs.Refusals.{number_of};
 
 // The most bytes that a rule has, and a plan.
 pub const LONGEST: usize = 4064;
@@ -50,25 +49,51 @@ pub struct Finish {
     pub place: u16,
 }
 
+// Why bad input is refused. Each reason has the number that document 01 gives it.
+#[derive(Clone, Copy, Debug, PartialEq, Eq)]
+pub enum Reason {
+    FileSize = 1,
+    PageCheck = 2,
+    PageForm = 3,
+    BadHeader = 4,
+    BadTag = 5,
+    BadVariable = 6,
+    BadTarget = 7,
+    TooDeep = 8,
+    EndsEarly = 9,
+    BytesAfter = 10,
+    TooLong = 11,
+    NoRoom = 12,
+    Misfit = 13,
+    OverLimit = 14,
+    NotPlan = 15,
+    GotoCycle = 16,
+}
+
+impl Reason {
+    // The number that a caller is told.
+    pub fn number(self) -> u8
+        ensures { result ≡ number_of self }
+    {
+        self as u8
+    }
+
+    // A refusal for this reason.
+    pub fn at(self, place: usize) -> Refusal
+        ensures { result ≡ record { reason = self; place = place } }
+    {
+        Refusal {
+            reason: self,
+            place,
+        }
+    }
+}
+
 // Why and where bad input is refused.
-#[derive(Drop)]
+#[derive(Clone, Copy, Debug, PartialEq, Eq)]
 pub struct Refusal {
-    pub number: u8,
+    pub reason: Reason,
     pub place: usize,
-}
-
-// What reading at a place of a rule finds: the place after it, or a refusal.
-#[derive(Drop)]
-pub enum Read {
-    Next(usize),
-    Refused(Refusal),
-}
-
-// What a call answers: the size written, for a run the most rounds, or a refusal.
-#[derive(Drop)]
-pub enum Reply {
-    Done(usize),
-    Refused(Refusal),
 }
 
 // Where a row's part lies: from a word of the result buffer on, or from one of the working buffer on.
@@ -129,20 +154,4 @@ pub fn goes_on(f: Finish) -> bool
     ensures { result ≡ goes_on f }
 {
     f.status == 0
-}
-
-// ---- refusals
-
-// The refusal of a call.
-pub fn refuse(number: u8, place: usize) -> Reply
-    ensures { result ≡ refusal number place }
-{
-    Reply::Refused(Refusal { number, place })
-}
-
-// The refusal of a reader.
-pub fn misread(number: u8, place: usize) -> Read
-    ensures { result ≡ misread number place }
-{
-    Read::Refused(Refusal { number, place })
 }

@@ -27,6 +27,7 @@ use Rattle.evaluators.proofs.Skipping.{expr_past, cond-past, past_one}
 use Rattle.evaluators.proofs.Sizes.{expr_size_lem, cond-size}
 use Rattle.evaluators.proofs.Tags.{expr_bad, cond-bad}
 use Rattle.evaluators.proofs.Answers.{got-is, is-got, value-is, fault-is, holds-is, held_fault_is, values_are, both_fault_is}
+use Rattle.definitions.specs.declared.Reason.TheVariants.{BadTag, TooDeep}
 
 -- ---- what stands in parts
 pub then-first : {A B : Type 0} (p : Got A) (f : A → ℕ → Got B) → Readable (then p f) → Readable p
@@ -177,7 +178,7 @@ module _ (left v : ℕ) (s : List ℕ) (at : ℕ) (st : Readable (expr_at left v
   expr_there = go left (got-is (expr_at left v s at) st).2
     where
       go : (d : ℕ) {e : Expr} {n : ℕ} → expr_at d v s at ≡ got e n → (at < length s) × (1 ≤ d)
-      go zero {e} {n} q = absurd (no_got 8 at e n (byte-got s at (λ t _. refused 8 at) e n q).1)
+      go zero {e} {n} q = absurd (no_got TooDeep at e n (byte-got s at (λ t _. refused TooDeep at) e n q).1)
       go (suc d) {e} {n} q = ((byte-got s at (λ t _. expr_body (expr_tag t) v s (λ n. expr_at d v s n) (λ n. cond_at d v s n) at) e n q).0, omega arith)
 
   -- what follows the tag
@@ -248,8 +249,8 @@ module _ (left v : ℕ) (s : List ℕ) (at : ℕ) (st : Readable (expr_at left v
       bad : (1 ≤ get_or s at 0 → get_or s at 0 ≤ 9 → ⊥) → ⊥
       bad out =
           let g = got-is (expr_at left v s at) st in
-          let q : expr_at left v s at ≡ refused 5 at = expr_is ∙ rw (expr_bad (get_or s at 0) out) in
-          no_got 5 at g.0 g.1 (sym q ∙ g.2)
+          let q : expr_at left v s at ≡ refused BadTag at = expr_is ∙ rw (expr_bad (get_or s at 0) out) in
+          no_got BadTag at g.0 g.1 (sym q ∙ g.2)
 
       go : Dec (get_or s at 0 < 1) → Dec (9 < get_or s at 0) → (4 ≤ get_or s at 0) × (get_or s at 0 ≤ 8)
       go (yes l) h = absurd (bad (λ x y. omega arith))
@@ -284,7 +285,7 @@ module _ (left v : ℕ) (s : List ℕ) (at : ℕ) (st : Readable (cond_at left v
   cond-there = go left (got-is (cond_at left v s at) st).2
     where
       go : (d : ℕ) {e : Cond} {n : ℕ} → cond_at d v s at ≡ got e n → (at < length s) × (1 ≤ d)
-      go zero {e} {n} q = absurd (no_got 8 at e n (byte-got s at (λ t _. refused 8 at) e n q).1)
+      go zero {e} {n} q = absurd (no_got TooDeep at e n (byte-got s at (λ t _. refused TooDeep at) e n q).1)
       go (suc d) {e} {n} q = ((byte-got s at (λ t _. cond_body (cond_tag t) (λ n. expr_at d v s n) (λ n. cond_at d v s n) at) e n q).0, omega arith)
 
   cond-is : cond_at left v s at ≡ cond_body (cond_tag (get_or s at 0)) (λ n. expr_at (left - 1) v s n) (λ n. cond_at (left - 1) v s n) at
@@ -339,8 +340,8 @@ module _ (left v : ℕ) (s : List ℕ) (at : ℕ) (st : Readable (cond_at left v
       bad : (0x10 ≤ get_or s at 0 → get_or s at 0 ≤ 0x14 → ⊥) → ⊥
       bad out =
           let g = got-is (cond_at left v s at) st in
-          let q : cond_at left v s at ≡ refused 5 at = cond-is ∙ rw (cond-bad (get_or s at 0) out) in
-          no_got 5 at g.0 g.1 (sym q ∙ g.2)
+          let q : cond_at left v s at ≡ refused BadTag at = cond-is ∙ rw (cond-bad (get_or s at 0) out) in
+          no_got BadTag at g.0 g.1 (sym q ∙ g.2)
 
       go : Dec (get_or s at 0 < 16) → Dec (20 < get_or s at 0) → Dec (get_or s at 0 < 18) → (19 ≤ get_or s at 0) × (get_or s at 0 ≤ 20)
       go (yes l) h m = absurd (bad (λ x y. omega arith))

@@ -10,6 +10,7 @@ use Rattle.definitions.specs.Grammar.{Got, got, refused, then, one, two, constan
 use Rattle.definitions.specs.Grammar.{ExprTag, const_tag, var_tag, neg_tag, case_tag, bad_expr, op_tag, expr_tag}
 use Rattle.definitions.specs.Grammar.{CondTag, not_tag, bad_cond, compare_tag, join_tag, cond_tag, EndTag, goto_tag, jump_tag, stop_tag, if_tag, bad_end, end_tag}
 use Rattle.evaluators.proofs.Reading.{no_got, then-got, one-got, two-got, byte-got, constant-got, variable_got, target_got}
+use Rattle.definitions.specs.declared.Reason.TheVariants.{BadTag, TooDeep, EndsEarly}
 
 -- what every reading of a kind takes
 abbrev Takes : {A : Type 0} → (A → ℕ) → (ℕ → Got A) → Type 0
@@ -76,27 +77,27 @@ module _ (v : ℕ) (s : List ℕ) (E : ℕ → Got Expr) (C : ℕ → Got Cond) 
   expr_body_lem case_tag a n e =
       let w = three_takes Case cond_size expr_size C E hC hE (at + 1) a n e in
       tagged at (cond_size w.0 + (expr_size w.1 + expr_size w.2)) n (expr_size a) w.4 (ap expr_size w.3 ∙ case_size w.1 w.2 w.0)
-  expr_body_lem bad_expr a n e = absurd (no_got 5 at a n e)
+  expr_body_lem bad_expr a n e = absurd (no_got BadTag at a n e)
 
   cond-body : (x : CondTag) (a : Cond) (n : ℕ) → cond_body x E C at ≡ got a n → n ≡ at + cond_size a
   unfolding expr_bytes
   cond-body (compare_tag r) a n e = let w = two_takes (Compare r) expr_size E hE (at + 1) a n e in tagged at (expr_size w.0 + expr_size w.1) n (cond_size a) w.3 (ap cond_size w.2 ∙ compare_size w.0 w.1 r)
   cond-body not_tag a n e = let w = one-got Not C (at + 1) a n e in tagged at (cond_size w.0) n (cond_size a) (hC (at + 1) w.0 n w.1) (ap cond_size w.2 ∙ not-size w.0 w.0)
   cond-body (join_tag j) a n e = let w = two_takes (Join j) cond_size C hC (at + 1) a n e in tagged at (cond_size w.0 + cond_size w.1) n (cond_size a) w.3 (ap cond_size w.2 ∙ join_size w.0 w.1 j)
-  cond-body bad_cond a n e = absurd (no_got 5 at a n e)
+  cond-body bad_cond a n e = absurd (no_got BadTag at a n e)
 
 -- an expression, or a condition
 mutual
   unfolding expr_at
 
   pub expr_size_lem : (d v : ℕ) (s : List ℕ) → Takes expr_size (λ at. expr_at d v s at)
-  expr_size_lem zero v s at a n e = absurd (no_got 8 at a n (byte-got s at (λ t _. refused 8 at) a n e).1)
+  expr_size_lem zero v s at a n e = absurd (no_got TooDeep at a n (byte-got s at (λ t _. refused TooDeep at) a n e).1)
   expr_size_lem (suc d) v s at a n e =
       expr_body_lem v s (λ n. expr_at d v s n) (λ n. cond_at d v s n) (λ at a n e. expr_size_lem d v s at a n e) (λ at a n e. cond-size d v s at a n e) at (expr_tag (get_or s at 0)) a n
       (byte-got s at (λ t _. expr_body (expr_tag t) v s (λ n. expr_at d v s n) (λ n. cond_at d v s n) at) a n e).1
 
   pub cond-size : (d v : ℕ) (s : List ℕ) → Takes cond_size (λ at. cond_at d v s at)
-  cond-size zero v s at a n e = absurd (no_got 8 at a n (byte-got s at (λ t _. refused 8 at) a n e).1)
+  cond-size zero v s at a n e = absurd (no_got TooDeep at a n (byte-got s at (λ t _. refused TooDeep at) a n e).1)
   cond-size (suc d) v s at a n e =
       cond-body v s (λ n. expr_at d v s n) (λ n. cond_at d v s n) (λ at a n e. expr_size_lem d v s at a n e) (λ at a n e. cond-size d v s at a n e) at (cond_tag (get_or s at 0)) a n
       (byte-got s at (λ t _. cond_body (cond_tag t) (λ n. expr_at d v s n) (λ n. cond_at d v s n) at) a n e).1
@@ -111,11 +112,11 @@ module _ (ts : ℕ) (v : ℕ) (s : List ℕ) (E : ℕ → Got End) (hE : Takes e
   end_body_lem if_tag a m e =
       let w = three_takes If cond_size end_size (λ k. cond_at depth v s k) E (cond-size depth v s) hE (at + 1) a m e in
       tagged at (cond_size w.0 + (end_size w.1 + end_size w.2)) m (end_size a) w.4 (ap end_size w.3 ∙ if_size w.0 w.1 w.2)
-  end_body_lem bad_end a m e = absurd (no_got 5 at a m e)
+  end_body_lem bad_end a m e = absurd (no_got BadTag at a m e)
 
 pub end-size : (d : ℕ) (ts : ℕ) (v : ℕ) (s : List ℕ) → Takes end_size (λ at. end_at d ts v s at)
 unfolding end_at
-end-size zero ts v s at a m e = absurd (no_got 8 at a m (byte-got s at (λ t _. refused 8 at) a m e).1)
+end-size zero ts v s at a m e = absurd (no_got TooDeep at a m (byte-got s at (λ t _. refused TooDeep at) a m e).1)
 end-size (suc d) ts v s at a m e =
     end_body_lem ts v s (λ m. end_at d ts v s m) (λ at a m e. end-size d ts v s at a m e) at (end_tag (get_or s at 0)) a m
     (byte-got s at (λ t _. end_body (end_tag t) ts v s (λ m. end_at d ts v s m) at) a m e).1
@@ -168,5 +169,5 @@ module _ (ts : ℕ) (v : ℕ) (s : List ℕ) where
 
   pub block_size_lem : (f : ℕ) → Takes block_size (λ at. block_from f ts v s at)
   unfolding block_from
-  block_size_lem zero at b n e = absurd (no_got 9 (length s) b n e)
+  block_size_lem zero at b n e = absurd (no_got EndsEarly (length s) b n e)
   block_size_lem (suc f) at b n e = block-body (λ m. block_from f ts v s m) (λ at b n e. block_size_lem f at b n e) at b n (stmt_tag (get_or s at 0)) e

@@ -15,6 +15,7 @@ use Rattle.definitions.specs.Grammar.{CondTag, not_tag, bad_cond, compare_tag, j
 use Rattle.evaluators.specs.Skip.{Token, token, end_token, cond_token, expr_token, token_of, pass, past}
 use Rattle.evaluators.proofs.Tags.{expr_bad, cond-bad, end-bad}
 use Rattle.evaluators.proofs.Reading.{no_got, then-got, one-got, two-got, byte-got, constant-got, variable_got, target_got}
+use Rattle.definitions.specs.declared.Reason.TheVariants.{BadTag, TooDeep}
 
 -- ---- tokens
 expr_token_lem : (t : ℕ) (x : ExprTag) → expr_tag t ≡ x → token_of t ≡ expr_token x (cond_token (cond_tag t) (end_token (end_tag t)))
@@ -160,26 +161,26 @@ module _ (s : List ℕ) where
     expr_body_lem neg_tag q a n e = after-token p at 1 1 n there (expr_token_lem _ _ q) (let w = one-got Neg E (at + 1) a n e in hE p (at + 1) w.0 n w.1)
     expr_body_lem (op_tag o) q a n e = after-token p at 1 2 n there (expr_token_lem _ _ q) (two_past (Op o) E hE p (at + 1) a n e)
     expr_body_lem case_tag q a n e = after-token p at 1 3 n there (expr_token_lem _ _ q) (three-past Case C E hC hE p (at + 1) a n e)
-    expr_body_lem bad_expr q a n e = absurd (no_got 5 at a n e)
+    expr_body_lem bad_expr q a n e = absurd (no_got BadTag at a n e)
 
     cond-body : (x : CondTag) → cond_tag (get_or s at 0) ≡ x → (a : Cond) (n : ℕ) → cond_body x E C at ≡ got a n → past (p + 1) s at ≡ past p s n
     cond-body (compare_tag r) q a n e = after-token p at 1 2 n there (cond-token _ _ q (λ z. let o : ◌≡◌ {A = ℕ} 0 1 = cc in omega arith)) (two_past (Compare r) E hE p (at + 1) a n e)
     cond-body not_tag q a n e = after-token p at 1 1 n there (cond-token _ _ q (λ z. let o : ◌≡◌ {A = ℕ} 0 1 = cc in omega arith)) (let w = one-got Not C (at + 1) a n e in hC p (at + 1) w.0 n w.1)
     cond-body (join_tag j) q a n e = after-token p at 1 2 n there (cond-token _ _ q (λ z. let o : ◌≡◌ {A = ℕ} 0 1 = cc in omega arith)) (two_past (Join j) C hC p (at + 1) a n e)
-    cond-body bad_cond q a n e = absurd (no_got 5 at a n e)
+    cond-body bad_cond q a n e = absurd (no_got BadTag at a n e)
 
 -- an expression, or a condition
 mutual
   unfolding expr_at
 
   pub expr_past : (d v : ℕ) (s : List ℕ) → Passes s (λ at. expr_at d v s at)
-  expr_past zero v s p at a n e = absurd (no_got 8 at a n (byte-got s at (λ t _. refused 8 at) a n e).1)
+  expr_past zero v s p at a n e = absurd (no_got TooDeep at a n (byte-got s at (λ t _. refused TooDeep at) a n e).1)
   expr_past (suc d) v s p at a n e =
       let b = byte-got s at (λ t _. expr_body (expr_tag t) v s (λ n. expr_at d v s n) (λ n. cond_at d v s n) at) a n e in
       expr_body_lem s v (λ n. expr_at d v s n) (λ n. cond_at d v s n) (λ p at a n e. expr_past d v s p at a n e) (λ p at a n e. cond-past d v s p at a n e) p at b.0 (expr_tag (get_or s at 0)) refl a n b.1
 
   pub cond-past : (d v : ℕ) (s : List ℕ) → Passes s (λ at. cond_at d v s at)
-  cond-past zero v s p at a n e = absurd (no_got 8 at a n (byte-got s at (λ t _. refused 8 at) a n e).1)
+  cond-past zero v s p at a n e = absurd (no_got TooDeep at a n (byte-got s at (λ t _. refused TooDeep at) a n e).1)
   cond-past (suc d) v s p at a n e =
       let b = byte-got s at (λ t _. cond_body (cond_tag t) (λ n. expr_at d v s n) (λ n. cond_at d v s n) at) a n e in
       cond-body s v (λ n. expr_at d v s n) (λ n. cond_at d v s n) (λ p at a n e. expr_past d v s p at a n e) (λ p at a n e. cond-past d v s p at a n e) p at b.0 (cond_tag (get_or s at 0)) refl a n b.1
@@ -191,11 +192,11 @@ module _ (ts : ℕ) (v : ℕ) (s : List ℕ) (p at : ℕ) (there : at < length s
   end_body_lem jump_tag q a m e = let w = one-got Jump (target_at ts s) (at + 1) a m e in after-token s p at 2 0 m there (end_token_lem _ _ q (λ z. let o : ◌≡◌ {A = ℕ} 0 1 = cc in omega arith)) (ends s p at 1 m (target_got s (at + 1) ts w.0 m w.1).3)
   end_body_lem stop_tag q a m e = after-token s p at 1 0 m there (end_token_lem _ _ q (λ z. let o : ◌≡◌ {A = ℕ} 0 1 = cc in omega arith)) (let o : m ≡ at + 1 = cc in ends s p at 0 m (omega arith))
   end_body_lem if_tag q a m e = after-token s p at 1 3 m there (end_token_lem _ _ q (λ z. let o : ◌≡◌ {A = ℕ} 0 1 = cc in omega arith)) (three-past s If (λ k. cond_at depth v s k) E (cond-past depth v s) hE p (at + 1) a m e)
-  end_body_lem bad_end q a m e = absurd (no_got 5 at a m e)
+  end_body_lem bad_end q a m e = absurd (no_got BadTag at a m e)
 
 pub end-past : (d : ℕ) (ts : ℕ) (v : ℕ) (s : List ℕ) → Passes s (λ at. end_at d ts v s at)
 unfolding end_at
-end-past zero ts v s p at a m e = absurd (no_got 8 at a m (byte-got s at (λ t _. refused 8 at) a m e).1)
+end-past zero ts v s p at a m e = absurd (no_got TooDeep at a m (byte-got s at (λ t _. refused TooDeep at) a m e).1)
 end-past (suc d) ts v s p at a m e =
     let w = byte-got s at (λ t _. end_body (end_tag t) ts v s (λ m. end_at d ts v s m) at) a m e in
     end_body_lem ts v s p at w.0 (λ m. end_at d ts v s m) (λ p at a m e. end-past d ts v s p at a m e) (end_tag (get_or s at 0)) refl a m w.1

@@ -15,6 +15,8 @@ use Rattle.definitions.specs.Grammar.{expr_body, cond_body, expr_at, cond_at, de
 use Rattle.flows.specs.Marks.{Mark, carries, tag_width, mark_of}
 use Rattle.flows.proofs.Spans.{either, Spans, joined, tag_spans}
 use Rattle.flows.proofs.Trees.{expr_marks, cond_marks, end_marks, stmt_marks, body_marks, block_marks}
+use Rattle.definitions.specs.declared.Reason.TheVariants.{TooDeep, EndsEarly, BadVariable, BadTarget}
+use Rattle.definitions.specs.declared.Reason.{Reason}
 
 -- ---- which byte each tag is, as far as it counts
 
@@ -132,14 +134,14 @@ module _ (s : List ℕ) (at : ℕ) where
   plain t e h p = rw (← p.1 (get_or s (at + 1) 0)) (tag_spans s at t 1 e p.0 (omega arith))
 
   -- a tag and its operand, which has to pass a test
-  operand : (t number : ℕ) (allowed : ℕ → Bool) → get_or s at 0 ≡ t → tag_width t ≡ 2 → Spanned s (mark_of t) at (then (byte_at s (at + 1)) (λ k n. cond (allowed k) (got k n) (refused number (at + 1))))
-  operand t number allowed e w = go (ltb (at + 1) (length s)) refl
+  operand : (t : ℕ) (why : Reason) (allowed : ℕ → Bool) → get_or s at 0 ≡ t → tag_width t ≡ 2 → Spanned s (mark_of t) at (then (byte_at s (at + 1)) (λ k n. cond (allowed k) (got k n) (refused why (at + 1))))
+  operand t why allowed e w = go (ltb (at + 1) (length s)) refl
     where
-      tested : (k n : ℕ) (b : Bool) → Spans s at n (mark_of t k) → Spanned s (mark_of t) at (cond b (got k n) (refused number (at + 1)))
+      tested : (k n : ℕ) (b : Bool) → Spans s at n (mark_of t k) → Spanned s (mark_of t) at (cond b (got k n) (refused why (at + 1)))
       tested k n true x = x
       tested k n false x = tt
 
-      go : (b : Bool) → ltb (at + 1) (length s) ≡ b → Spanned s (mark_of t) at (then (cond b (got (get_or s (at + 1) 0) (at + 1 + 1)) (refused 9 (length s))) (λ k n. cond (allowed k) (got k n) (refused number (at + 1))))
+      go : (b : Bool) → ltb (at + 1) (length s) ≡ b → Spanned s (mark_of t) at (then (cond b (got (get_or s (at + 1) 0) (at + 1 + 1)) (refused EndsEarly (length s))) (λ k n. cond (allowed k) (got k n) (refused why (at + 1))))
       go true q =
           let l = ltb-true (at + 1) (length s) q in
           let two : at + 1 + 1 ≡ at + 2 = omega arith in
@@ -150,7 +152,7 @@ module _ (s : List ℕ) (at : ℕ) where
   unfolding expr_marks tag_width mark_of carries
   constant e = go (leb (at + 1 + 4) (length s)) refl
     where
-      go : (b : Bool) → leb (at + 1 + 4) (length s) ≡ b → Spanned s expr_marks at (then (cond b (got (constant_in s (at + 1)) (at + 1 + 4)) (refused 9 (length s))) (λ a n. got (Const a) n))
+      go : (b : Bool) → leb (at + 1 + 4) (length s) ≡ b → Spanned s expr_marks at (then (cond b (got (constant_in s (at + 1)) (at + 1 + 4)) (refused EndsEarly (length s))) (λ a n. got (Const a) n))
       go true q =
           let l = leb-true (at + 1 + 4) (length s) q in
           let five : at + 1 + 4 ≡ at + 5 = omega arith in
@@ -162,7 +164,7 @@ module _ (v : ℕ) (s : List ℕ) (E : ℕ → Got Expr) (C : ℕ → Got Cond) 
   expr_body_lem : (t : ExprTag) → ExprByte t (get_or s at 0) → Spanned s expr_marks at (expr_body t v s E C at)
   unfolding expr_marks tag_width mark_of carries
   expr_body_lem const_tag e = constant s at e
-  expr_body_lem var_tag e = next s at (mark_of 0x02) expr_marks (variable_at v s (at + 1)) (λ k n. got (Var k) n) (operand s at 0x02 6 (λ k. ltb k v) e refl) (λ k n w. w)
+  expr_body_lem var_tag e = next s at (mark_of 0x02) expr_marks (variable_at v s (at + 1)) (λ k n. got (Var k) n) (operand s at 0x02 BadVariable (λ k. ltb k v) e refl) (λ k n w. w)
   expr_body_lem neg_tag p = one_more s at expr_marks expr_marks (at + 1) [] Neg (plain s at (get_or s at 0) refl here p) (λ a. refl) (E (at + 1)) (hE (at + 1))
   expr_body_lem (op_tag o) p = two-more s at expr_marks expr_marks (at + 1) [] (Op o) (plain s at (get_or s at 0) refl here p) (λ a b. refl) E hE
   expr_body_lem case_tag p =
@@ -185,7 +187,7 @@ module _ (v : ℕ) (s : List ℕ) (E : ℕ → Got Expr) (C : ℕ → Got Cond) 
 tagged : {A : Type 0} (s : List ℕ) (f : A → List Mark) (at : ℕ) (h : ℕ → Got A) → (at < length s → Spanned s f at (h (get_or s at 0))) → Spanned s f at (then (byte_at s at) (λ t _. h t))
 tagged {A} s f at h w = go (ltb at (length s)) refl
   where
-    go : (b : Bool) → ltb at (length s) ≡ b → Spanned s f at (then {B = A} (cond b (got (get_or s at 0) (at + 1)) (refused 9 (length s))) (λ t _. h t))
+    go : (b : Bool) → ltb at (length s) ≡ b → Spanned s f at (then {B = A} (cond b (got (get_or s at 0) (at + 1)) (refused EndsEarly (length s))) (λ t _. h t))
     go true q = w (ltb-true at (length s) q)
     go false q = tt
 
@@ -193,19 +195,19 @@ mutual
   unfolding expr_at
 
   expr_spanned : (d v : ℕ) (s : List ℕ) (at : ℕ) → Spanned s expr_marks at (expr_at d v s at)
-  expr_spanned zero v s at = tagged s expr_marks at (λ t. refused 8 at) (λ h. tt)
+  expr_spanned zero v s at = tagged s expr_marks at (λ t. refused TooDeep at) (λ h. tt)
   expr_spanned (suc d) v s at = tagged s expr_marks at (λ t. expr_body (expr_tag t) v s (λ n. expr_at d v s n) (λ n. cond_at d v s n) at) (λ h. expr_body_lem v s (λ n. expr_at d v s n) (λ n. cond_at d v s n) (λ n. expr_spanned d v s n) (λ n. cond_spanned d v s n) at h (expr_tag (get_or s at 0)) (expr_byte (get_or s at 0)))
 
   cond_spanned : (d v : ℕ) (s : List ℕ) (at : ℕ) → Spanned s cond_marks at (cond_at d v s at)
-  cond_spanned zero v s at = tagged s cond_marks at (λ t. refused 8 at) (λ h. tt)
+  cond_spanned zero v s at = tagged s cond_marks at (λ t. refused TooDeep at) (λ h. tt)
   cond_spanned (suc d) v s at = tagged s cond_marks at (λ t. cond_body (cond_tag t) (λ n. expr_at d v s n) (λ n. cond_at d v s n) at) (λ h. cond-body v s (λ n. expr_at d v s n) (λ n. cond_at d v s n) (λ n. expr_spanned d v s n) (λ n. cond_spanned d v s n) at h (cond_tag (get_or s at 0)) (cond_byte (get_or s at 0)))
 
 -- ---- endings
 module _ (ts : ℕ) (v : ℕ) (s : List ℕ) (E : ℕ → Got End) (hE : (m : ℕ) → Spanned s end_marks m (E m)) (at : ℕ) (here : at < length s) where
   end_body_lem : (t : EndTag) → EndByte t (get_or s at 0) → Spanned s end_marks at (end_body t ts v s E at)
   unfolding end_marks tag_width mark_of carries
-  end_body_lem goto_tag e = next s at (mark_of 0x30) end_marks (target_at ts s (at + 1)) (λ t m. got (Goto t) m) (operand s at 0x30 7 (λ t. ltb t ts) e refl) (λ t m w. w)
-  end_body_lem jump_tag e = next s at (mark_of 0x31) end_marks (target_at ts s (at + 1)) (λ t m. got (Jump t) m) (operand s at 0x31 7 (λ t. ltb t ts) e refl) (λ t m w. w)
+  end_body_lem goto_tag e = next s at (mark_of 0x30) end_marks (target_at ts s (at + 1)) (λ t m. got (Goto t) m) (operand s at 0x30 BadTarget (λ t. ltb t ts) e refl) (λ t m w. w)
+  end_body_lem jump_tag e = next s at (mark_of 0x31) end_marks (target_at ts s (at + 1)) (λ t m. got (Jump t) m) (operand s at 0x31 BadTarget (λ t. ltb t ts) e refl) (λ t m w. w)
   end_body_lem stop_tag e = tag_spans s at 0x32 1 e refl (omega arith)
   end_body_lem if_tag e = go (tag_spans s at 0x33 1 e refl (omega arith)) (cond_at depth v s (at + 1)) (cond_spanned depth v s (at + 1))
     where
@@ -216,7 +218,7 @@ module _ (ts : ℕ) (v : ℕ) (s : List ℕ) (E : ℕ → Got End) (hE : (m : �
 
 end_spanned : (d : ℕ) (ts : ℕ) (v : ℕ) (s : List ℕ) (at : ℕ) → Spanned s end_marks at (end_at d ts v s at)
 unfolding end_at
-end_spanned zero ts v s at = tagged s end_marks at (λ t. refused 8 at) (λ h. tt)
+end_spanned zero ts v s at = tagged s end_marks at (λ t. refused TooDeep at) (λ h. tt)
 end_spanned (suc d) ts v s at = tagged s end_marks at (λ t. end_body (end_tag t) ts v s (λ m. end_at d ts v s m) at) (λ h. end_body_lem ts v s (λ m. end_at d ts v s m) (λ m. end_spanned d ts v s m) at h (end_tag (get_or s at 0)) (end-byte (get_or s at 0)))
 
 -- ---- statements and blocks
@@ -224,7 +226,7 @@ module _ (v : ℕ) (s : List ℕ) (at : ℕ) where
   set_spanned : get_or s at 0 ≡ 0x20 → Spanned s stmt_marks at (set_at v s (at + 1))
   unfolding stmt_marks tag_width mark_of carries
   set_spanned e =
-      next s at (mark_of 0x20) stmt_marks (variable_at v s (at + 1)) (λ x n. one (Set x) (expr_at depth v s) n) (operand s at 0x20 6 (λ k. ltb k v) e refl)
+      next s at (mark_of 0x20) stmt_marks (variable_at v s (at + 1)) (λ x n. one (Set x) (expr_at depth v s) n) (operand s at 0x20 BadVariable (λ k. ltb k v) e refl)
       (λ x n w. one_more s at expr_marks stmt_marks n ((0x20, x) ∷ []) (Set x) w (λ a. refl) (expr_at depth v s n) (expr_spanned depth v s n))
 
   emit_spanned : get_or s at 0 ≡ 0x21 → Spanned s stmt_marks at (emit_at v s (at + 1))

@@ -14,7 +14,7 @@ ghost use Rattle.flows.specs.Marks.{carries, tag_width, tags_in, marks_of, part_
 ghost use Rattle.std.specs.Iterator.{YieldsFirst, item_count};
 
 use closure::{Blocks, Edges, Variables, edges_where, smallest, variables_where};
-use definitions::{BLOCKS, Read};
+use definitions::BLOCKS;
 use readers::blocks::read_block;
 use std::marker::Model;
 
@@ -115,8 +115,8 @@ fn places_of(s: &[u8], n: u8, v: u8) -> Places
     out[0] = 4;
     for b in 0..n as usize {
         match read_block(s, out[b], v, n) {
-            Read::Next(next) => out[b + 1] = next,
-            Read::Refused(_) => return out,
+            Ok(next) => out[b + 1] = next,
+            Err(_) => return out,
         }
     }
     out

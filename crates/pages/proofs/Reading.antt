@@ -4,7 +4,6 @@ use Rattle.std.specs.List.{list_all}
 use native.Mathlib.Nat.{min-le_left}
 use borrow.Author.Tests.{eqb-false, not-true}
 use Rattle.definitions.specs.declared.Refusal.{Refusal}
-use Rattle.definitions.specs.declared.Reply.TheVariants.{Done, Refused}
 use Rattle.definitions.specs.Grammar.{Got, got, refused, then}
 use Rattle.definitions.specs.Plan.{end_of}
 use Rattle.definitions.specs.Pages.{most_pages, page_size, payload_room, length_in, check_in, check_of, page_in, payload_of, all_zero, length_ok, filler_ok, size_ok, page_at, payload_to, unpacked}
@@ -13,6 +12,9 @@ use Rattle.buffers.proofs.Laws.{over-start, over-next}
 use Rattle.pages.specs.Answers.{scan_of, Fits}
 use Rattle.definitions.specs.Calls.{bytes_in}
 use Rattle.pages.specs.Refusals.{Page, Good}
+use Rattle.std.specs.Prelude.{Ok, Err}
+use Rattle.definitions.specs.declared.Reason.TheVariants.{FileSize, PageCheck, PageForm}
+use Rattle.definitions.specs.declared.Reason.{Reason}
 
 -- ---- the filler
 
@@ -55,19 +57,19 @@ length_payload p e h = length-take-le (length_in p) (drop 2 p) (omega (arith, le
 
 -- ---- what an answer says
 
-pub scan_got : (g : Got (List ℕ)) (n : ℕ) → scan_of g ≡ Done n → (g ≡ got (bytes_in g) (end_of g)) × (length (bytes_in g) ≡ n)
+pub scan_got : (g : Got (List ℕ)) (n : ℕ) → scan_of g ≡ Ok n → (g ≡ got (bytes_in g) (end_of g)) × (length (bytes_in g) ≡ n)
 unfolding scan_of bytes_in
 scan_got (got xs m) n h = (refl, cc)
 scan_got (refused k p) n h = let z : ◌≡◌ {A = ℕ} 0 1 = cc in absurd (omega arith)
 
-pub scan_refused : (g : Got (List ℕ)) (w : Refusal) → scan_of g ≡ Refused w → g ≡ refused w.number w.place
+pub scan_refused : (g : Got (List ℕ)) (w : Refusal) → scan_of g ≡ Err w → g ≡ refused w.reason w.place
 unfolding scan_of
 scan_refused (got xs m) w h = let z : ◌≡◌ {A = ℕ} 0 1 = cc in absurd (omega arith)
 scan_refused (refused k p) w h =
-    let e : record { number = k; place = p } ≡ w = cc in
+    let e : record { reason = k; place = p } ≡ w = cc in
     rw (← e)
 
-pub scan_fits : (g : Got (List ℕ)) (n room : ℕ) → scan_of g ≡ Done n → n ≤ room → Fits g room
+pub scan_fits : (g : Got (List ℕ)) (n room : ℕ) → scan_of g ≡ Ok n → n ≤ room → Fits g room
 unfolding scan_of Fits
 scan_fits (got xs m) n room h l = let e : length xs ≡ n = cc in omega arith
 scan_fits (refused k p) n room h l = let z : ◌≡◌ {A = ℕ} 0 1 = cc in absurd (omega arith)
@@ -79,7 +81,7 @@ fits-got (refused k p) room h = absurd h
 
 -- ---- what `scan_page` answers
 
-pub absurd_got : {C : Type 0} {A : Type 0} {a : A} {n k p : ℕ} → refused k p ≡ got a n → C
+pub absurd_got : {C : Type 0} {A : Type 0} {a : A} {n : ℕ} {k : Reason} {p : ℕ} → refused k p ≡ got a n → C
 absurd_got h = let z : ◌≡◌ {A = ℕ} 0 1 = cc in absurd (omega arith)
 
 module _ (last : Bool) (p : List ℕ) (k : ℕ) where
@@ -95,38 +97,38 @@ module _ (last : Bool) (p : List ℕ) (k : ℕ) where
   got-page xs n e = go (eqb (check_in p) (check_of k p)) (length_ok last (length_in p)) (filler_ok p) refl refl refl e
     where
       go : (a b c : Bool) → eqb (check_in p) (check_of k p) ≡ a → length_ok last (length_in p) ≡ b → filler_ok p ≡ c
-          → cond (not a) (refused 2 k) (cond (not (b && c)) (refused 3 k) (got (payload_of p) (k + 1))) ≡ got xs n → Page last p k
+          → cond (not a) (refused PageCheck k) (cond (not (b && c)) (refused PageForm k) (got (payload_of p) (k + 1))) ≡ got xs n → Page last p k
       go true true true ea eb ec h = record { check = eqb-true (check_in p) (check_of k p) ea; size = eb; filler = ec }
       go true true false ea eb ec h = absurd_got h
       go true false c ea eb ec h = absurd_got h
       go false b c ea eb ec h = absurd_got h
 
-  pub bad-check : (check_in p ≡ check_of k p → ⊥) → page_at last p k ≡ refused 2 k
+  pub bad-check : (check_in p ≡ check_of k p → ⊥) → page_at last p k ≡ refused PageCheck k
   unfolding page_at
   bad-check h = rw (ne_eqb (check_in p) (check_of k p) h)
 
-  pub bad-form : check_in p ≡ check_of k p → (length_ok last (length_in p) && filler_ok p) ≡ false → page_at last p k ≡ refused 3 k
+  pub bad-form : check_in p ≡ check_of k p → (length_ok last (length_in p) && filler_ok p) ≡ false → page_at last p k ≡ refused PageForm k
   unfolding page_at
   bad-form e h = rw (eq-eqb (check_in p) (check_of k p) e, h)
 
   -- the same as `scan_page` has it: a and b are the check as it stands and as it should be, n is the length
   module _ (a b n : ℕ) (ea : a ≡ check_in p) (eb : b ≡ check_of k p) where
-    pub page-2 : (a ≡ b → ⊥) → Refused (record { number = 2; place = k }) ≡ scan_of (page_at last p k)
+    pub page-2 : (a ≡ b → ⊥) → Err (record { reason = PageCheck; place = k }) ≡ scan_of (page_at last p k)
     unfolding scan_of
     page-2 h = sym (ap scan_of (bad-check (λ e. h (ea ∙ e ∙ sym eb))))
 
     module _ (e : a ≡ b) (en : n ≡ length_in p) where
-      pub page-3 : (length_ok last n && filler_ok p) ≡ false → Refused (record { number = 3; place = k }) ≡ scan_of (page_at last p k)
+      pub page-3 : (length_ok last n && filler_ok p) ≡ false → Err (record { reason = PageForm; place = k }) ≡ scan_of (page_at last p k)
       unfolding scan_of
       page-3 h = sym (ap scan_of (bad-form (sym ea ∙ e ∙ eb) (rw en at h)))
 
-      pub page-done : length p ≡ page_size → length_ok last n ≡ true → filler_ok p ≡ true → Done n ≡ scan_of (page_at last p k)
+      pub page-done : length p ≡ page_size → length_ok last n ≡ true → filler_ok p ≡ true → Ok n ≡ scan_of (page_at last p k)
       unfolding scan_of
       page-done l h f =
           let g : Page last p k = record { check = sym ea ∙ e ∙ eb; size = rw en at h; filler = f } in
-          rw (page-got g) (ap Done (en ∙ sym (length_payload p l (page-short g))))
+          rw (page-got g) (ap Ok (en ∙ sym (length_payload p l (page-short g))))
 
-  pub page-room : (n : ℕ) → Done n ≡ scan_of (page_at last p k) → n ≤ payload_room
+  pub page-room : (n : ℕ) → Ok n ≡ scan_of (page_at last p k) → n ≤ payload_room
   unfolding bytes_in
   page-room n e =
       let g = scan_got (page_at last p k) n (sym e) in
@@ -140,7 +142,7 @@ module _ (last : Bool) (p : List ℕ) (k : ℕ) where
 abbrev pub joined : Got (List ℕ) → Got (List ℕ) → Got (List ℕ)
 joined g h = then g (λ xs at. then h (λ ys next. got (xs ++ ys) next))
 
-scan_on : (g h : Got (List ℕ)) (t n : ℕ) → scan_of g ≡ Done t → scan_of h ≡ Done n → scan_of (joined g h) ≡ Done (t + n)
+scan_on : (g h : Got (List ℕ)) (t n : ℕ) → scan_of g ≡ Ok t → scan_of h ≡ Ok n → scan_of (joined g h) ≡ Ok (t + n)
 unfolding scan_of
 scan_on (got xs a) (got ys b) t n e f =
     let el : length xs ≡ t = cc in
@@ -167,33 +169,33 @@ module _ (file : List ℕ) (P : ℕ) where
   unfolding payload_to
   payload_more k = ap (payload_to file P) (add-one k)
 
-  pub scan_none : scan_of (payload_to file P 0) ≡ Done 0
+  pub scan_none : scan_of (payload_to file P 0) ≡ Ok 0
   unfolding payload_to scan_of
   scan_none = refl
 
   -- a turn of `scan_pages` that goes on, p being the page
-  pub turn_on : (k t n : ℕ) (p : List ℕ) → p ≡ page_in file k → scan_of (payload_to file P k) ≡ Done t → Done n ≡ scan_of (page_at (eqb (k + 1) P) p k)
-      → scan_of (payload_to file P (k + 1)) ≡ Done (t + n)
+  pub turn_on : (k t n : ℕ) (p : List ℕ) → p ≡ page_in file k → scan_of (payload_to file P k) ≡ Ok t → Ok n ≡ scan_of (page_at (eqb (k + 1) P) p k)
+      → scan_of (payload_to file P (k + 1)) ≡ Ok (t + n)
   turn_on k t n p ep e f =
       rw (payload_more k) (scan_on (payload_to file P k) (page_at (eqb (k + 1) P) (page_in file k) k) t n e (sym (rw ep at f)))
 
-  stays : (k d i j : ℕ) → payload_to file P k ≡ refused i j → payload_to file P (k + d) ≡ refused i j
+  stays : (k d : ℕ) (i : Reason) (j : ℕ) → payload_to file P k ≡ refused i j → payload_to file P (k + d) ≡ refused i j
   stays k zero i j s = rw add-zero s
   stays k (suc d) i j s = rw (add-suc, ← add-one, payload_more (k + d), stays k d i j s)
 
   -- the first page that is refused decides
-  pub off : (k i j : ℕ) (xs : List ℕ) (n : ℕ) → k < P → payload_to file P k ≡ got xs n → page_at (eqb (k + 1) P) (page_in file k) k ≡ refused i j → payload_to file P P ≡ refused i j
+  pub off : (k : ℕ) (i : Reason) (j : ℕ) (xs : List ℕ) (n : ℕ) → k < P → payload_to file P k ≡ got xs n → page_at (eqb (k + 1) P) (page_in file k) k ≡ refused i j → payload_to file P P ≡ refused i j
   off k i j xs n h e f =
       subst (λ (m : ℕ). payload_to file P m ≡ refused i j) (add-sub_of_le {n = P} {m = k + 1} (omega arith)) (stays (k + 1) (P - (k + 1)) i j (payload_more k ∙ rw (e, f)))
 
   -- a turn that ends with a refusal
-  pub turn-off : (k t : ℕ) (w : Refusal) (p : List ℕ) → k < P → p ≡ page_in file k → scan_of (payload_to file P k) ≡ Done t → Refused w ≡ scan_of (page_at (eqb (k + 1) P) p k)
-      → Refused w ≡ scan_of (payload_to file P P)
+  pub turn-off : (k t : ℕ) (w : Refusal) (p : List ℕ) → k < P → p ≡ page_in file k → scan_of (payload_to file P k) ≡ Ok t → Err w ≡ scan_of (page_at (eqb (k + 1) P) p k)
+      → Err w ≡ scan_of (payload_to file P P)
   unfolding scan_of
   turn-off k t w p h ep e f =
       let g = payload_to file P k in
       let r = scan_refused (page_at (eqb (k + 1) P) (page_in file k) k) w (sym (rw ep at f)) in
-      sym (ap scan_of (off k w.number w.place (bytes_in g) (end_of g) h (scan_got g t e).0 r))
+      sym (ap scan_of (off k w.reason w.place (bytes_in g) (end_of g) h (scan_got g t e).0 r))
 
   fits-before : (k d room : ℕ) → Fits (payload_to file P (k + d)) room → Fits (payload_to file P k) room
   fits-before k zero room h = rw add-zero at h
@@ -239,7 +241,7 @@ pub whole : (file : List ℕ) → size_ok (length file) ≡ true → unpacked fi
 unfolding unpacked
 whole file h = rw h
 
-pub wrong_size : (file : List ℕ) → size_ok (length file) ≡ false → unpacked file ≡ refused 1 0
+pub wrong_size : (file : List ℕ) → size_ok (length file) ≡ false → unpacked file ≡ refused FileSize 0
 unfolding unpacked
 wrong_size file h = rw h
 

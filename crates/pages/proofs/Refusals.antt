@@ -6,6 +6,8 @@ use Rattle.definitions.specs.Pages.{page_size, length_in, check_in, check_of, pa
 use Rattle.pages.specs.Answers.{Fits}
 use Rattle.pages.specs.Refusals.{Good, Refuses, size, check, form}
 use Rattle.pages.proofs.Reading.{absurd_got, joined, page-got, bad-check, bad-form, off, within, whole, wrong_size}
+use Rattle.definitions.specs.declared.Reason.TheVariants.{FileSize, PageCheck, PageForm}
+use Rattle.definitions.specs.declared.Reason.{Reason}
 
 -- ---- it is refused where `Refuses` says so
 
@@ -21,16 +23,16 @@ clear file P (suc k) g =
     let c = clear file P k (λ j h. g j (omega arith)) in
     record { xs = c.xs ++ payload_of (page_in file k); n = k + 1; all = rw (c.all, page-got (eqb (k + 1) P) (page_in file k) k (g k (omega arith))) }
 
-pub refuses : (file : List ℕ) (i j : ℕ) → Refuses file i j → unpacked file ≡ refused i j
+pub refuses : (file : List ℕ) (i : Reason) (j : ℕ) → Refuses file i j → unpacked file ≡ refused i j
 refuses file _ _ (size h) = wrong_size file h
 refuses file _ _ (check {k} h l g c) =
     let P = length file / page_size in
     let a = clear file P k g in
-    whole file h ∙ off file P k 2 k a.xs a.n l a.all (bad-check (eqb (k + 1) P) (page_in file k) k c)
+    whole file h ∙ off file P k PageCheck k a.xs a.n l a.all (bad-check (eqb (k + 1) P) (page_in file k) k c)
 refuses file _ _ (form {k} h l g c f) =
     let P = length file / page_size in
     let a = clear file P k g in
-    whole file h ∙ off file P k 3 k a.xs a.n l a.all (bad-form (eqb (k + 1) P) (page_in file k) k c f)
+    whole file h ∙ off file P k PageForm k a.xs a.n l a.all (bad-form (eqb (k + 1) P) (page_in file k) k c f)
 
 -- ---- and only there
 
@@ -39,13 +41,13 @@ unfolding Fits
 got-fits g xs n e = rw e (le_refl (length xs))
 
 -- the first page that is refused
-record First (file : List ℕ) (P m i j : ℕ) : Type 0 where
+record First (file : List ℕ) (P m : ℕ) (i : Reason) (j : ℕ) : Type 0 where
   k : ℕ
   here : k < m
   before : Good file P k
   bad : page_at (eqb (k + 1) P) (page_in file k) k ≡ refused i j
 
-first : (file : List ℕ) (P m i j : ℕ) → payload_to file P m ≡ refused i j → First file P m i j
+first : (file : List ℕ) (P m : ℕ) (i : Reason) (j : ℕ) → payload_to file P m ≡ refused i j → First file P m i j
 unfolding payload_to
 first file P zero i j e = absurd_got (sym e)
 first file P (suc m) i j e = go (payload_to file P m) (page_at (eqb (m + 1) P) (page_in file m) m) (λ s. first file P m i j s) refl refl e
@@ -59,7 +61,7 @@ first file P (suc m) i j e = go (payload_to file P m) (page_at (eqb (m + 1) P) (
         record { k = f.k; here = omega (arith, f.here); before = f.before; bad = f.bad }
 
 module _ (file : List ℕ) (ok : size_ok (length file) ≡ true) where
-  refused-page : (k i j : ℕ) → k < length file / page_size → Good file (length file / page_size) k → page_at (eqb (k + 1) (length file / page_size)) (page_in file k) k ≡ refused i j → Refuses file i j
+  refused-page : (k : ℕ) (i : Reason) (j : ℕ) → k < length file / page_size → Good file (length file / page_size) k → page_at (eqb (k + 1) (length file / page_size)) (page_in file k) k ≡ refused i j → Refuses file i j
   unfolding page_at
   refused-page k i j h g e =
       let p = page_in file k in
@@ -67,18 +69,18 @@ module _ (file : List ℕ) (ok : size_ok (length file) ≡ true) where
       go (eqb (check_in p) (check_of k p)) (length_ok last (length_in p) && filler_ok p) refl refl e
     where
       go : (a b : Bool) → eqb (check_in (page_in file k)) (check_of k (page_in file k)) ≡ a → (length_ok (eqb (k + 1) (length file / page_size)) (length_in (page_in file k)) && filler_ok (page_in file k)) ≡ b
-          → cond (not a) (refused 2 k) (cond (not b) (refused 3 k) (got (payload_of (page_in file k)) (k + 1))) ≡ refused i j → Refuses file i j
+          → cond (not a) (refused PageCheck k) (cond (not b) (refused PageForm k) (got (payload_of (page_in file k)) (k + 1))) ≡ refused i j → Refuses file i j
       go true true ea eb q = absurd_got (sym q)
       go true false ea eb q =
-          let ei : 3 ≡ i = cc in
+          let ei : PageForm ≡ i = cc in
           let ej : k ≡ j = cc in
           rw (← ei, ← ej) (form ok h g (eqb-true (check_in (page_in file k)) (check_of k (page_in file k)) ea) eb)
       go false b ea eb q =
-          let ei : 2 ≡ i = cc in
+          let ei : PageCheck ≡ i = cc in
           let ej : k ≡ j = cc in
           rw (← ei, ← ej) (check ok h g (eqb-false (check_in (page_in file k)) (check_of k (page_in file k)) ea))
 
-pub refused-only : (file : List ℕ) (i j : ℕ) → unpacked file ≡ refused i j → Refuses file i j
+pub refused-only : (file : List ℕ) (i : Reason) (j : ℕ) → unpacked file ≡ refused i j → Refuses file i j
 refused-only file i j e = go (size_ok (length file)) refl
   where
     go : (b : Bool) → size_ok (length file) ≡ b → Refuses file i j
@@ -86,7 +88,7 @@ refused-only file i j e = go (size_ok (length file)) refl
         let f = first file (length file / page_size) (length file / page_size) i j (sym (whole file h) ∙ e) in
         refused-page file h f.k i j f.here f.before f.bad
     go false h =
-        let q : ◌≡◌ {A = Got (List ℕ)} (refused 1 0) (refused i j) = sym (wrong_size file h) ∙ e in
-        let ei : 1 ≡ i = cc in
+        let q : ◌≡◌ {A = Got (List ℕ)} (refused FileSize 0) (refused i j) = sym (wrong_size file h) ∙ e in
+        let ei : FileSize ≡ i = cc in
         let ej : 0 ≡ j = cc in
         rw (← ei, ← ej) (size h)

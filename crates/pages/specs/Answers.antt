@@ -1,13 +1,13 @@
 -- The code's answer to `unpacked`: the size of what a file holds.
 use Rattle.std.specs.Prelude.{ℕ, ◌≤◌, List, length}
 use Rattle.definitions.specs.Grammar.{Got, got, refused}
-use Rattle.definitions.specs.declared.Reply.{Reply}
-use Rattle.definitions.specs.declared.Reply.TheVariants.{Done, Refused}
+use Rattle.definitions.specs.Refusals.{Reply}
+use Rattle.std.specs.Prelude.{Ok, Err}
 
 -- how many bytes were found, or the refusal
 unfoldable pub scan_of : Got (List ℕ) → Reply
-scan_of (got xs n) = Done (length xs)
-scan_of (refused k p) = Refused (record { number = k; place = p })
+scan_of (got xs n) = Ok (length xs)
+scan_of (refused k p) = Err (record { reason = k; place = p })
 
 -- bytes were found, and there is room for them
 unfoldable pub Fits : Got (List ℕ) → ℕ → Type 0

@@ -1,6 +1,8 @@
 -- When a file is refused with 1, 2 or 3, said without the reader: `unpacked` gives these refusals exactly then.
 use Rattle.std.specs.Prelude.{◌≡◌, ℕ, ◌+◌, ◌/◌, ◌<◌, Bool, true, false, ◌&&◌, List, length, ◌==◌, ◌≢◌}
 use Rattle.definitions.specs.Pages.{page_size, length_in, check_in, check_of, page_in, length_ok, filler_ok, size_ok}
+use Rattle.definitions.specs.declared.Reason.{Reason}
+use Rattle.definitions.specs.declared.Reason.TheVariants.{FileSize, PageCheck, PageForm}
 
 -- page k, the last or not, is as it should be
 pub record Page (last : Bool) (p : List ℕ) (k : ℕ) : Type 0 where
@@ -12,13 +14,13 @@ pub record Page (last : Bool) (p : List ℕ) (k : ℕ) : Type 0 where
 abbrev pub Good : List ℕ → ℕ → ℕ → Type 0
 Good file pages k = (j : ℕ) → j < k → Page (j + 1 == pages) (page_in file j) j
 
--- a number and a place with which a file is refused
-pub data Refuses (file : List ℕ) : ℕ → ℕ → Type 0 where
-  size : size_ok (length file) ≡ false → Refuses file 1 0
+-- why and where a file is refused
+pub data Refuses (file : List ℕ) : Reason → ℕ → Type 0 where
+  size : size_ok (length file) ≡ false → Refuses file FileSize 0
   check : {k : ℕ} → size_ok (length file) ≡ true → k < length file / page_size → Good file (length file / page_size) k
       → (check_in (page_in file k) ≢ check_of k (page_in file k))
-      → Refuses file 2 k
+      → Refuses file PageCheck k
   form : {k : ℕ} → size_ok (length file) ≡ true → k < length file / page_size → Good file (length file / page_size) k
       → check_in (page_in file k) ≡ check_of k (page_in file k)
       → (length_ok (k + 1 == length file / page_size) (length_in (page_in file k)) && filler_ok (page_in file k)) ≡ false
-      → Refuses file 3 k
+      → Refuses file PageForm k

@@ -7,7 +7,7 @@ ghost use Rattle.definitions.specs.Grammar.{longest};
 ghost use Rattle.pages.specs.Answers.{scan_of, Fits};
 ghost use Rattle.definitions.specs.Calls.{bytes_in};
 
-use definitions::{Reply, refuse};
+use definitions::{Reason, Refusal};
 
 const PAGE_SIZE: usize = 512;
 
@@ -126,45 +126,32 @@ fn length_ok(last: bool, n: usize) -> bool
 }
 
 // Page k, the last or not: how many bytes it holds. Its check comes first, since nothing else in it counts if that is wrong.
-fn scan_page(p: &[u8], k: u16, last: bool) -> Reply
+fn scan_page(p: &[u8], k: u16, last: bool) -> Result<usize, Refusal>
     requires { length p.now ≡ page_size }
     ensures { result ≡ scan_of (page_at last p.now k) }
 {
     let place = k as usize;
     if buffers::word_at(p, CHECK_PLACE) != check(p, k) {
-        return refuse(2, place);
+        return Err(Reason::PageCheck.at(place));
     }
     let n = length_in(p) as usize;
-    if !length_ok(last, n) {
-        return refuse(3, place);
+    if !length_ok(last, n) || !filler_ok(p) {
+        return Err(Reason::PageForm.at(place));
     }
-    if !filler_ok(p) {
-        return refuse(3, place);
-    }
-    Reply::Done(n)
+    Ok(n)
 }
 
 // All pages of a file of so many: how many bytes they hold, or the first refusal.
-fn scan_pages(file: &[u8], pages: usize) -> Reply
+fn scan_pages(file: &[u8], pages: usize) -> Result<usize, Refusal>
     requires { (pages ≤ most_pages) × (pages * page_size ≤ length file.now) }
     ensures { result ≡ scan_of (payload_to file.now pages pages) }
 {
-    let mut total: usize = 0;
-    let mut k: usize = 0;
-    while k < pages {
-        let p = page_in(file, k);
-        let found = scan_page(p, k as u16, k + 1 == pages);
-        match found {
-            Reply::Refused(why) => {
-                return Reply::Refused(why);
-            }
-            Reply::Done(n) => {
-                total += n;
-                k += 1;
-            }
-        }
+    let mut total = 0;
+    for k in 0..pages {
+        let n = scan_page(page_in(file, k), k as u16, k + 1 == pages)?;
+        total += n;
     }
-    Reply::Done(total)
+    Ok(total)
 }
 
 // Whether n bytes can be a file: 1 to 8 whole pages.
@@ -175,14 +162,14 @@ fn size_ok(n: usize) -> bool
 }
 
 // How many bytes a file holds, or why it is refused: for any bytes.
-pub fn scan(file: &[u8]) -> Reply
+pub fn scan(file: &[u8]) -> Result<usize, Refusal>
     ensures { result ≡ scan_of (unpacked file.now) }
 {
     let n = file.len();
     if size_ok(n) {
         scan_pages(file, n / PAGE_SIZE)
     } else {
-        refuse(1, 0)
+        Err(Reason::FileSize.at(0))
     }
 }
 

@@ -11,6 +11,7 @@ use Rattle.definitions.specs.Rule.{Rule}
 use Rattle.definitions.specs.Grammar.{Got, got, refused, rule_of, longest}
 use Rattle.definitions.specs.Plan.{plan_of, same, carried, as_plan, planned}
 use Rattle.definitions.proofs.Tests.{and_parts, and_both}
+use Rattle.definitions.specs.declared.Reason.TheVariants.{NotPlan}
 
 -- ---- two lists of bytes
 pub same_refl : (xs : List ℕ) → same xs xs ≡ true
@@ -37,7 +38,7 @@ module _ (p : List ℕ) (r : Rule) (n : ℕ) where
   taken : (g : Got Rule) → as_plan p g ≡ got r n → (g ≡ got r n) × (n ≤ longest) × (plan_of r (carried p) ≡ p)
   taken (got t m) h = go (leb m longest && same (plan_of t (carried p)) p) refl h
     where
-      go : (b : Bool) → (leb m longest && same (plan_of t (carried p)) p) ≡ b → cond b (got t m) (refused 15 0) ≡ got r n
+      go : (b : Bool) → (leb m longest && same (plan_of t (carried p)) p) ≡ b → cond b (got t m) (refused NotPlan 0) ≡ got r n
           → (got t m ≡ got r n) × (n ≤ longest) × (plan_of r (carried p) ≡ p)
       go true e k =
           let parts = and_parts (leb m longest) (same (plan_of t (carried p)) p) e in

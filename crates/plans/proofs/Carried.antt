@@ -18,29 +18,29 @@ use Rattle.readers.proofs.Accepted.{rule-in}
 use Rattle.readers.proofs.Places.{rule-header, block-stands}
 use Rattle.rules.proofs.Uncycled.{rule-parsed}
 use Rattle.flows.proofs.Flow.{place-past}
-use Rattle.plans.specs.declared.Taken.{Taken}
-use Rattle.plans.specs.declared.Taken.TheVariants as taken
 use Rattle.plans.specs.Taken.{taken_of, Taking}
 use Rattle.plans.specs.Accepted.{tree_of, rule_in, Accepted}
 use Rattle.plans.proofs.Fields.{word_le16, plan-length, plan-lc, plan-entry, plan-byte, plan-bodies}
 use Rattle.plans.proofs.Accepted.{Plan, is-plan}
 use Rattle.plans.proofs.Proper.{proper}
+use Rattle.definitions.specs.declared.Reason.{Reason}
+use Rattle.std.specs.Prelude.{Option, Some, None}
 
 -- ---- an accepted plan, from the answer of `take`
-pub accepted : {p : List ℕ} {t : Taken} {buffer : List ℕ} → Taking p t buffer → (n : ℕ) → t ≡ taken.Rule n → Accepted p
+pub accepted : {p : List ℕ} {t : Option ℕ} {buffer : List ℕ} → Taking p t buffer → (n : ℕ) → t ≡ Some n → Accepted p
 unfolding taken_of tree_of
 accepted {p} k n e = go (planned p) refl
   where
     go : (g : Got Rule) → planned p ≡ g → Accepted p
     go (got r m) i = record { next = m; is = i ∙ ap (λ x. got x m) (sym (ap tree_of i)) }
-    go (refused a b) i = let a : taken.NotPlan ≡ taken.Rule n = sym (ap taken_of i) ∙ sym k.answer ∙ e in let z : ◌≡◌ {A = ℕ} 0 1 = cc in absurd (omega arith)
+    go (refused a b) i = let a : None ≡ Some n = sym (ap taken_of i) ∙ sym k.answer ∙ e in let z : ◌≡◌ {A = ℕ} 0 1 = cc in absurd (omega arith)
 
-pub refused-plan : {p : List ℕ} {t : Taken} {buffer : List ℕ} → Taking p t buffer → t ≡ taken.NotPlan → (k : ℕ) × (at : ℕ) × (planned p ≡ refused k at)
+pub refused-plan : {p : List ℕ} {t : Option ℕ} {buffer : List ℕ} → Taking p t buffer → t ≡ None → (k : Reason) × (at : ℕ) × (planned p ≡ refused k at)
 unfolding taken_of
 refused-plan {p} k e = go (planned p) refl
   where
-    go : (g : Got Rule) → planned p ≡ g → (k : ℕ) × (at : ℕ) × (planned p ≡ refused k at)
-    go (got r m) i = let a : taken.Rule m ≡ taken.NotPlan = sym (ap taken_of i) ∙ sym k.answer ∙ e in let z : ◌≡◌ {A = ℕ} 0 1 = cc in absurd (omega arith)
+    go : (g : Got Rule) → planned p ≡ g → (k : Reason) × (at : ℕ) × (planned p ≡ refused k at)
+    go (got r m) i = let a : Some m ≡ None = sym (ap taken_of i) ∙ sym k.answer ∙ e in let z : ◌≡◌ {A = ℕ} 0 1 = cc in absurd (omega arith)
     go (refused a b) i = (a, b, i)
 
 -- ---- what stands where in it

@@ -13,8 +13,7 @@ use Rattle.definitions.specs.Plan.{plan_of, head_size, end_of}
 use Rattle.definitions.specs.Pages.{unpacked}
 use Rattle.definitions.specs.Calls.{to_read, to_compile, bytes_in, Wrote}
 use Rattle.definitions.specs.declared.Refusal.{Refusal}
-use Rattle.definitions.specs.declared.Reply.{Reply}
-use Rattle.definitions.specs.declared.Reply.TheVariants.{Done, Refused}
+use Rattle.definitions.specs.Refusals.{Reply}
 use Rattle.pages.specs.Answers.{scan_of}
 use Rattle.pages.proofs.Reading.{scan_got, scan_refused, absurd_got}
 use Rattle.rules.specs.Opened.{Opened}
@@ -24,6 +23,8 @@ use Rattle.readers.proofs.Places.{rule-header}
 use Rattle.rules.proofs.Uncycled.{rule-parsed}
 use Rattle.plans.specs.Laid.{IsRule, OrderFor, Ordering, size_for}
 use Rattle.plans.proofs.Fields.{plan-length}
+use Rattle.std.specs.Prelude.{Ok, Err}
+use Rattle.definitions.specs.declared.Reason.{Reason}
 
 -- reading and compiling go the same way up to the last step
 compiles : (g : Got (List ℕ)) (s : List ℕ) (m : ℕ) → then g (λ s _. then (rule_of s) (λ r n. got s n)) ≡ got s m
@@ -39,7 +40,7 @@ compiles (got xs k) s m e = go (rule_of xs) refl e
     go (refused k p) i e = absurd_got e
 compiles (refused k p) s m e = absurd_got e
 
-refuses : (g : Got (List ℕ)) (k p : ℕ) → then g (λ s _. then (rule_of s) (λ r n. got s n)) ≡ refused k p
+refuses : (g : Got (List ℕ)) (k : Reason) (p : ℕ) → then g (λ s _. then (rule_of s) (λ r n. got s n)) ≡ refused k p
     → then g (λ s _. then (rule_of s) (λ r n. got (plan_of r s) n)) ≡ refused k p
 refuses (got xs m) k p e = go (rule_of xs) refl e
   where
@@ -48,9 +49,9 @@ refuses (got xs m) k p e = go (rule_of xs) refl e
     go (refused a b) i e = let x : a ≡ k = cc in let y : b ≡ p = cc in rw (i, x, y)
 refuses (refused a b) k p e = let x : a ≡ k = cc in let y : b ≡ p = cc in rw (x, y)
 
-pub compile_not : (file : List ℕ) (w : Refusal) → Refused w ≡ scan_of (to_read file) → Refused w ≡ scan_of (to_compile file)
+pub compile_not : (file : List ℕ) (w : Refusal) → Err w ≡ scan_of (to_read file) → Err w ≡ scan_of (to_compile file)
 unfolding to_read to_compile scan_of
-compile_not file w e = rw (refuses (unpacked file) w.number w.place (scan_refused (to_read file) w (sym e)))
+compile_not file w e = rw (refuses (unpacked file) w.reason w.place (scan_refused (to_read file) w (sym e)))
 
 -- the rule in the buffer, and the plan that is to be written
 pub record Ready (file : List ℕ) (n : ℕ) (buffer : List ℕ) : Type 0 where
@@ -61,7 +62,7 @@ pub record Ready (file : List ℕ) (n : ℕ) (buffer : List ℕ) : Type 0 where
   pub what : to_compile file ≡ got (plan_of ruled.rule (take n buffer)) ruled.end
   pub sized : (order : List ℕ) → OrderFor (take n buffer) order → length (plan_of ruled.rule (take n buffer)) ≡ head_size (blocks_in (take n buffer)) (length order) + n - 4
 
-pub ready : {file buffer : List ℕ} {r : Reply} (n : ℕ) → Opened (to_read file) r buffer → r ≡ Done n → Ready file n buffer
+pub ready : {file buffer : List ℕ} {r : Reply} (n : ℕ) → Opened (to_read file) r buffer → r ≡ Ok n → Ready file n buffer
 unfolding to_read to_compile
 ready {file} {buffer} n o e =
     let found = scan_got (to_read file) n (sym o.reply ∙ e) in
@@ -84,14 +85,14 @@ module _ {file : List ℕ} {n : ℕ} {buffer : List ℕ} (d : Ready file n buffe
   total_is : total ≡ head_size (blocks_in (take n buffer)) (length (take count bytes)) + n - 4
   total_is = rw (length-take-le count bytes o.there, ← d.first, ← eb) is
 
-  pub compile_size : Done total ≡ scan_of (to_compile file)
+  pub compile_size : Ok total ≡ scan_of (to_compile file)
   unfolding scan_of
-  compile_size = rw d.what (ap Done (total_is ∙ sym (d.sized (take count bytes) o.order)))
+  compile_size = rw d.what (ap Ok (total_is ∙ sym (d.sized (take count bytes) o.order)))
 
   pub compile_room : (room : ℕ) → total ≤ room → size_for (take n buffer) (length (take count bytes)) ≤ room
   compile_room room h = rw d.long (rw total_is at h)
 
   pub compile_all : (old new : List ℕ) → total ≤ length old → ((r : Rule) (m : ℕ) → rule_of (take n buffer) ≡ got r m → new ≡ over old 0 (plan_of r (take n buffer)))
-      → Wrote (to_compile file) old (Done total) new
+      → Wrote (to_compile file) old (Ok total) new
   unfolding bytes_in
   compile_all old new h w = wrote-all (to_compile file) old total compile_size new h (w d.ruled.rule d.ruled.end d.ruled.is ∙ rw d.what)

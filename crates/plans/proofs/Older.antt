@@ -12,8 +12,7 @@ use Rattle.definitions.specs.Grammar.{got, refused, rule_of, longest}
 use Rattle.definitions.specs.Columns.{LedTo, led_to, Flow, flow_over, jumps_to}
 use Rattle.definitions.specs.Plan.{mask_of, entry_of, entries_to, plan_by, plan_of, carried, as_plan, planned, same}
 use Rattle.definitions.specs.Pages.{unpacked}
-use Rattle.definitions.specs.Calls.{to_compile, bytes_in, columns_reply, refusal, Wrote}
-use Rattle.definitions.specs.declared.Reply.TheVariants.{Done}
+use Rattle.definitions.specs.Calls.{to_compile, bytes_in, columns_reply, Wrote}
 use Rattle.definitions.proofs.Tests.{and_parts, not_so, some_same}
 use Rattle.definitions.proofs.Agreeing.{Agree, same_inputs, same-outputs, mask-same}
 use Rattle.definitions.proofs.Led.{led-exactly, dead-inputs, dead-outputs, dead-joins}
@@ -28,6 +27,9 @@ use Rattle.plans.proofs.Fields.{plan-carries}
 use Rattle.plans.proofs.Accepted.{same-is}
 use Rattle.plans.proofs.Promises.{compiled-accepted, compiled}
 use Rattle.plans.proofs.Carried.{at-inputs, at-outputs, at-joins}
+use Rattle.std.specs.Prelude.{Ok}
+use Rattle.definitions.specs.declared.Reason.TheVariants.{NotPlan}
+use Rattle.definitions.specs.Refusals.{refusal}
 
 -- ---- only which blocks below n count matters
 
@@ -69,27 +71,27 @@ pub kept-bytes : (r : Rule) (s : List ℕ) → 0 < size r → NoneDead r → pla
 kept-bytes r s h none = plan-same r (led_to r) (λ _. true) (λ b l. (led-exactly r b l).1 (none b l)) s h
 
 -- .. and so what `compile` writes of a file whose rule has none
-pub compiled_as_before : (file old : List ℕ) (n : ℕ) (new : List ℕ) → Wrote (to_compile file) old (Done n) new
+pub compiled_as_before : (file old : List ℕ) (n : ℕ) (new : List ℕ) → Wrote (to_compile file) old (Ok n) new
     → (s : List ℕ) (m : ℕ) → unpacked file ≡ got s m → (r : Rule) (k : ℕ) → rule_of s ≡ got r k → NoneDead r → take n new ≡ older_plan r s
 unfolding to_compile bytes_in
 compiled_as_before file old n new w s m f r k e none =
     done-bytes (to_compile file) old n new w ∙ rw (f, e) (kept-bytes r s (rule-in s r k (rule-parsed s r k e)).blocks_from none)
 
 -- a plan that the new sets change is no plan
-pub changed_refused : (s : List ℕ) (r : Rule) (n : ℕ) → rule_of s ≡ got r n → (plan_of r s ≡ older_plan r s → ⊥) → planned (older_plan r s) ≡ refused 15 0
+pub changed_refused : (s : List ℕ) (r : Rule) (n : ℕ) → rule_of s ≡ got r n → (plan_of r s ≡ older_plan r s → ⊥) → planned (older_plan r s) ≡ refused NotPlan 0
 unfolding planned
 changed_refused s r n e differs =
     let p = older_plan r s in
     let c : carried p ≡ s = plan-carries (flow_over (λ _. true) r) r s (rule-header s r n (rule-parsed s r n e)) (rule-in s r n (rule-parsed s r n e)).blocks_from in
     let no-match : (leb n longest && same (plan_of r (carried p)) p) ≡ true → ⊥ = λ h. differs (ap (plan_of r) (sym c) ∙ same-is (plan_of r (carried p)) p (and_parts (leb n longest) (same (plan_of r (carried p)) p) h).1) in
-    ap (as_plan p) (ap rule_of c ∙ e) ∙ ap (λ (x : Bool). cond x (got r n) (refused 15 0)) (not_so (leb n longest && same (plan_of r (carried p)) p) no-match)
+    ap (as_plan p) (ap rule_of c ∙ e) ∙ ap (λ (x : Bool). cond x (got r n) (refused NotPlan 0)) (not_so (leb n longest && same (plan_of r (carried p)) p) no-match)
 
 -- .. and one that they leave as it is goes on as it did
 pub unchanged_accepted : (s : List ℕ) (r : Rule) (n : ℕ) → rule_of s ≡ got r n → length s ≤ longest → plan_of r s ≡ older_plan r s → planned (older_plan r s) ≡ got r n
 unchanged_accepted s r n e short is = ap planned (sym is) ∙ compiled-accepted s r n e short
 
 -- so does the call that counts columns say
-pub older_columns : (s : List ℕ) (r : Rule) (n : ℕ) → rule_of s ≡ got r n → (plan_of r s ≡ older_plan r s → ⊥) → columns_reply (planned (older_plan r s)) ≡ refusal 15 0
+pub older_columns : (s : List ℕ) (r : Rule) (n : ℕ) → rule_of s ≡ got r n → (plan_of r s ≡ older_plan r s → ⊥) → columns_reply (planned (older_plan r s)) ≡ refusal NotPlan 0
 unfolding columns_reply
 older_columns s r n e differs = ap columns_reply (changed_refused s r n e differs)
 
@@ -118,7 +120,7 @@ dead_entry plan r n e =
     subst (λ (x : Rule). (b : ℕ) → b < size x → (LedTo x b → ⊥) → NoColumns plan b) same (dead_here plan a)
 
 -- .. and so in what `compile` writes
-pub compiled_dead : (file old : List ℕ) (n : ℕ) (new : List ℕ) → Wrote (to_compile file) old (Done n) new → (r : Rule) (m : ℕ) → rule_in_file file ≡ got r m
+pub compiled_dead : (file old : List ℕ) (n : ℕ) (new : List ℕ) → Wrote (to_compile file) old (Ok n) new → (r : Rule) (m : ℕ) → rule_in_file file ≡ got r m
     → (b : ℕ) → b < size r → (LedTo r b → ⊥) → NoColumns (take n new) b
 compiled_dead file old n new w r m e =
     let p = compiled file old n new w in

@@ -15,7 +15,6 @@ use Rattle.definitions.specs.Order.{Order, order_of, goes_back}
 use Rattle.definitions.specs.Plan.{order_bytes, head_size, bodies_from, entry_of, entries_to, plan_by, plan_of, carried, planned}
 use Rattle.definitions.specs.Pages.{unpacked}
 use Rattle.definitions.specs.Calls.{to_compile, bytes_in, Wrote}
-use Rattle.definitions.specs.declared.Reply.TheVariants.{Done}
 use Rattle.definitions.proofs.Tests.{not_so, must_be}
 use Rattle.definitions.proofs.Orders.{order-length, order_is, order-only}
 use Rattle.definitions.proofs.Ordered.{order-once, order-ahead, goes_back_lem, none-back}
@@ -27,6 +26,7 @@ use Rattle.plans.specs.Ordered.{BackGoto, NoneBack, plain_entry, plain_entries, 
 use Rattle.plans.proofs.Fields.{plan-order}
 use Rattle.plans.proofs.Carried.{carried-rule, carried-long, carried-bytes, plan-long, at-bodies}
 use Rattle.plans.proofs.Promises.{compiled}
+use Rattle.std.specs.Prelude.{Ok}
 
 -- ---- whether some goto goes back
 pub back-exactly : (r : Rule) → (goes_back (size r) (goto_in r) ≡ true) ↔ BackGoto r
@@ -64,7 +64,7 @@ module _ (r : Rule) (s : List ℕ) (none : NoneBack r) where
   plan-plain = rw (entries_plain (size r), no_order r none)
 
 -- .. and so what `compile` writes of a file whose rule has no goto back
-pub compiled-plain : (file old : List ℕ) (n : ℕ) (new : List ℕ) → Wrote (to_compile file) old (Done n) new
+pub compiled-plain : (file old : List ℕ) (n : ℕ) (new : List ℕ) → Wrote (to_compile file) old (Ok n) new
     → (s : List ℕ) (m : ℕ) → unpacked file ≡ got s m → (r : Rule) (k : ℕ) → rule_of s ≡ got r k → NoneBack r → take n new ≡ unordered_plan r s
 unfolding to_compile bytes_in
 compiled-plain file old n new w s m f r k e none = done-bytes (to_compile file) old n new w ∙ rw (f, e) (plan-plain r s none)
@@ -99,7 +99,7 @@ plan-ordered plan r n e =
     subst (λ (x : Rule). BackGoto x → Ordered plan x) same (listed_here plan a)
 
 -- .. and so in what `compile` writes
-pub compiled-ordered : (file old : List ℕ) (n : ℕ) (new : List ℕ) → Wrote (to_compile file) old (Done n) new → (r : Rule) (m : ℕ) → rule_in_file file ≡ got r m
+pub compiled-ordered : (file old : List ℕ) (n : ℕ) (new : List ℕ) → Wrote (to_compile file) old (Ok n) new → (r : Rule) (m : ℕ) → rule_in_file file ≡ got r m
     → BackGoto r → Ordered (take n new) r
 compiled-ordered file old n new w r m e =
     let p = compiled file old n new w in

@@ -13,8 +13,7 @@ use Rattle.definitions.specs.Columns.{flow_of, Inputs}
 use Rattle.definitions.specs.Plan.{end_of, plan_of, carried, planned}
 use Rattle.definitions.specs.Pages.{pages_for, unpacked}
 use Rattle.definitions.specs.Calls.{to_write, to_compile, bytes_in, Wrote}
-use Rattle.definitions.specs.declared.Reply.{Reply}
-use Rattle.definitions.specs.declared.Reply.TheVariants.{Done}
+use Rattle.definitions.specs.Refusals.{Reply}
 use Rattle.pages.proofs.Trip.{Bytes}
 use Rattle.rules.specs.Replies.{OfFile}
 use Rattle.rules.specs.Spelling.{Accepts}
@@ -29,6 +28,7 @@ use Rattle.plans.proofs.Fields.{plan-carries}
 use Rattle.plans.proofs.Accepted.{is-plan}
 use Rattle.plans.proofs.Exactly.{carries}
 use Rattle.plans.proofs.Files.{rule-held, unpacked-short}
+use Rattle.std.specs.Prelude.{Ok}
 
 pub compile_exactly : (file old : List ℕ) (r : Reply) (new : List ℕ) → Wrote (to_compile file) old r new → (q : Reply) → (r ≡ q) ↔ OfFile plan_of file (length old) q
 unfolding to_compile
@@ -36,7 +36,7 @@ compile_exactly file old r new w = file-exactly plan_of file old r new w
 
 -- which files compile, said without the reader: those that hold the bytes of a tree within the limits, with room for its plan
 pub compile_accepts : (file old : List ℕ) (q : Reply) (new : List ℕ) → Bytes file → Wrote (to_compile file) old q new →
-    (n : ℕ) → (q ≡ Done n) ↔ ((s : List ℕ) × (m : ℕ) × (unpacked file ≡ got s m) × Accepts plan_of s (length old) n)
+    (n : ℕ) → (q ≡ Ok n) ↔ ((s : List ℕ) × (m : ℕ) × (unpacked file ≡ got s m) × Accepts plan_of s (length old) n)
 unfolding to_compile
 compile_accepts file old q new small w = file-accepts plan_of file old q new small w
 
@@ -60,7 +60,7 @@ compiled-accepted s r n e h =
     (is-plan (plan_of r s) r n).1 (record { rule = ap rule_of c ∙ e; short = omega (arith, rule_end s r n read); bytes = ap (plan_of r) c })
 
 -- what `compile` writes is a plan for the file's own rule
-pub compiled : (file old : List ℕ) (n : ℕ) (new : List ℕ) → Wrote (to_compile file) old (Done n) new → PlanFor (rule_in_file file) (take n new)
+pub compiled : (file old : List ℕ) (n : ℕ) (new : List ℕ) → Wrote (to_compile file) old (Ok n) new → PlanFor (rule_in_file file) (take n new)
 unfolding to_compile
 compiled file old n new w =
     let xs = bytes_in (to_compile file) in
@@ -72,11 +72,11 @@ compiled file old n new w =
     record { rule = read.first; end = read.place; is = rule-held file held.first held.place held.was ∙ read.was; accepted = accepted; carries = exactly-columns (take n new) read.first read.place accepted }
 
 -- the file that `write` writes has the rule that s is
-pub written-rule : (s old : List ℕ) (n : ℕ) (new : List ℕ) → Wrote (to_write s) old (Done n) new → rule_in_file (take n new) ≡ rule_of s
+pub written-rule : (s old : List ℕ) (n : ℕ) (new : List ℕ) → Wrote (to_write s) old (Ok n) new → rule_in_file (take n new) ≡ rule_of s
 written-rule s old n new w = rule-held (take n new) s (pages_for (length s)) (written-holds s old n new w)
 
 -- what `compile` writes of that file is a plan for that rule
 pub written-compiled :
-    (s old : List ℕ) (n : ℕ) (file : List ℕ) → Wrote (to_write s) old (Done n) file →
-    (old' : List ℕ) (m : ℕ) (plan : List ℕ) → Wrote (to_compile (take n file)) old' (Done m) plan → PlanFor (rule_of s) (take m plan)
+    (s old : List ℕ) (n : ℕ) (file : List ℕ) → Wrote (to_write s) old (Ok n) file →
+    (old' : List ℕ) (m : ℕ) (plan : List ℕ) → Wrote (to_compile (take n file)) old' (Ok m) plan → PlanFor (rule_of s) (take m plan)
 written-compiled s old n file w old' m plan c = rw (written-rule s old n file w) at (compiled (take n file) old' m plan c)

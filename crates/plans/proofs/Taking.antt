@@ -13,20 +13,19 @@ use Rattle.definitions.specs.Grammar.{Got, got, refused, read_of, rule_of, block
 use Rattle.definitions.specs.Columns.{flow_of}
 use Rattle.definitions.specs.Plan.{plan_of, head_size, longest_plan, same, bodies_at, carried, planned}
 use Rattle.definitions.specs.declared.Refusal.{Refusal}
-use Rattle.definitions.specs.declared.Read.TheVariants as read
 use Rattle.definitions.proofs.Tests.{clash}
 use Rattle.pages.proofs.Reading.{absurd_got}
 use Rattle.readers.proofs.Accepted.{rule-in}
 use Rattle.rules.proofs.FileLaws.{read-got, read-refused}
 use Rattle.rules.proofs.Uncycled.{rule-parsed}
 use Rattle.plans.specs.Laid.{IsRule, OrderFor, Ordering, size_for}
-use Rattle.plans.specs.declared.Taken.{Taken}
-use Rattle.plans.specs.declared.Taken.TheVariants as taken
 use Rattle.plans.specs.Taken.{taken_of, Extracted, Taking}
 use Rattle.plans.proofs.Fields.{plan-length}
 use Rattle.plans.proofs.Accepted.{Plan, is-plan, same_refl, same-is}
 use Rattle.readers.proofs.Places.{rule_end, rule-header}
 use Rattle.plans.proofs.Ruling.{rule_has_block, ruled-plan}
+use Rattle.std.specs.Prelude.{Ok, Err}
+use Rattle.std.specs.Prelude.{Option, Some, None}
 
 -- the size of the plan that is compiled again
 module _ {s : List ℕ} {count : ℕ} {bytes : List ℕ} (o : Ordering s count bytes) where
@@ -53,15 +52,15 @@ same_refl' {y} e = rw e (same_refl y)
 
 -- ---- bytes that are no plan
 module _ (p : List ℕ) where
-  not-plan : ((r : Rule) (n : ℕ) → Plan p r n → ⊥) → taken_of (planned p) ≡ taken.NotPlan
+  not-plan : ((r : Rule) (n : ℕ) → Plan p r n → ⊥) → taken_of (planned p) ≡ None
   unfolding taken_of
   not-plan h = go (planned p) refl
     where
-      go : (g : Got Rule) → planned p ≡ g → taken_of g ≡ taken.NotPlan
+      go : (g : Got Rule) → planned p ≡ g → taken_of g ≡ None
       go (got r n) e = absurd (h r n ((is-plan p r n).0 e))
       go (refused k at) e = refl
 
-  pub none : taken_of (planned p) ≡ taken.NotPlan → (buffer : List ℕ) → Extracted p taken.NotPlan buffer
+  pub none : taken_of (planned p) ≡ None → (buffer : List ℕ) → Extracted p None buffer
   none e buffer = record {
     not = λ _. e;
     short = λ n d. not-rule n d;
@@ -69,17 +68,17 @@ module _ (p : List ℕ) where
     bytes = λ n d. not-rule n d;
   }
     where
-      not-rule : {C : Type 0} (n : ℕ) → taken.NotPlan ≡ taken.Rule n → C
+      not-rule : {C : Type 0} (n : ℕ) → None ≡ Some n → C
       not-rule n d = let z : ◌≡◌ {A = ℕ} 0 1 = cc in absurd (omega arith)
 
   -- a plan has a block's entry and more
-  pub cut_entry : length p < 8 → taken_of (planned p) ≡ taken.NotPlan
+  pub cut_entry : length p < 8 → taken_of (planned p) ≡ None
   cut_entry h = not-plan (λ r n a.
       let l = rule_has_block (carried p) r n a.rule in
       omega (arith, ap length a.bytes, plan-length (flow_of r) r (carried p) (omega arith), (rule-in (carried p) r n (rule-parsed (carried p) r n a.rule)).blocks_from))
 
   -- where there are no bodies, what is carried is at most a header
-  pub cut_bodies : length p < bodies_at p → taken_of (planned p) ≡ taken.NotPlan
+  pub cut_bodies : length p < bodies_at p → taken_of (planned p) ≡ None
   cut_bodies h = not-plan (λ r n a. let l = rule_has_block (carried p) r n a.rule in omega (arith, short))
     where
       short : length (carried p) ≤ 4
@@ -89,11 +88,11 @@ module _ (p : List ℕ) where
     carried-length : length (carried p) ≡ length p - at + 4
     carried-length = rw e (simp (length-append, length-take-le 4 p h, length-drop) (omega arith))
 
-    pub too_long : longest - 4 < length p - at → taken_of (planned p) ≡ taken.NotPlan
+    pub too_long : longest - 4 < length p - at → taken_of (planned p) ≡ None
     too_long l = not-plan (λ r n a. omega (arith, a.short, rule_end (carried p) r n (rule-parsed (carried p) r n a.rule), carried-length))
 
     pub all_there : length p - at + 4 ≤ longest → (old : List ℕ) {d₁ d₂ : List ℕ} → longest ≤ length old
-        → d₁ ≡ over old 0 (take 4 p) → d₂ ≡ over d₁ 4 (take (length p - at) (drop at p)) → Extracted p (taken.Rule (length p - at + 4)) d₂
+        → d₁ ≡ over old 0 (take 4 p) → d₂ ≡ over d₁ 4 (take (length p - at) (drop at p)) → Extracted p (Some (length p - at + 4)) d₂
     all_there short old {d₂ = d₂} room e₁ e₂ =
         let four : length (take 4 p) ≡ 4 = length-take-le 4 p h in
         let rest : take (length p - at) (drop at p) ≡ drop (bodies_at p) p = rw e (take_all (length p - bodies_at p) (drop (bodies_at p) p) (omega (arith, length-drop (bodies_at p) p))) in
@@ -107,23 +106,23 @@ module _ (p : List ℕ) where
         }
 
 -- ---- what was carried, read
-nothing : {p : List ℕ} {buffer : List ℕ} → taken_of (planned p) ≡ taken.NotPlan → Taking p taken.NotPlan buffer
+nothing : {p : List ℕ} {buffer : List ℕ} → taken_of (planned p) ≡ None → Taking p None buffer
 nothing e = record { answer = sym e; bytes = λ n f. let z : ◌≡◌ {A = ℕ} 0 1 = cc in absurd (omega arith) }
 
-module _ {p : List ℕ} {t : Taken} {buffer : List ℕ} (c : Extracted p t buffer) where
-  pub taking_none : t ≡ taken.NotPlan → Taking p taken.NotPlan buffer
+module _ {p : List ℕ} {t : Option ℕ} {buffer : List ℕ} (c : Extracted p t buffer) where
+  pub taking_none : t ≡ None → Taking p None buffer
   taking_none e = nothing (c.not e)
 
-  module _ (n : ℕ) (carries : t ≡ taken.Rule n) where
+  module _ (n : ℕ) (carries : t ≡ Some n) where
     pub taken-length : length (take n buffer) ≡ n
     taken-length = ap length (c.bytes n carries) ∙ sym (c.size n carries)
 
     -- the reader refuses it
-    pub taking-refused : (w : Refusal) → read_of (rule_of (take n buffer)) ≡ read.Refused w → Taking p taken.NotPlan buffer
+    pub taking-refused : (w : Refusal) → read_of (rule_of (take n buffer)) ≡ Err w → Taking p None buffer
     taking-refused w e =
         nothing (not-plan p (λ r k a. let q = a.rule in let u = read-refused (rule_of (take n buffer)) w e in let b = c.bytes n carries in absurd_got (sym u ∙ ap rule_of b ∙ q)))
 
-    module _ (m : ℕ) (e : read_of (rule_of (take n buffer)) ≡ read.Next m) where
+    module _ (m : ℕ) (e : read_of (rule_of (take n buffer)) ≡ Ok m) where
       is : (r : Rule) × (rule_of (take n buffer) ≡ got r m)
       is = read-got (rule_of (take n buffer)) m e
 
@@ -131,16 +130,16 @@ module _ {p : List ℕ} {t : Taken} {buffer : List ℕ} (c : Extracted p t buffe
       taken-ruled = record { rule = is.0; end = m; is = is.1; short = omega (arith, taken-length, c.short n carries) }
 
       module _ {b : Bool} (compiles : (r : Rule) (k : ℕ) → rule_of (take n buffer) ≡ got r k → b ≡ same (plan_of r (take n buffer)) p) where
-        pub taking-all : b ≡ true → Taking p (taken.Rule n) buffer
+        pub taking-all : b ≡ true → Taking p (Some n) buffer
         unfolding taken_of
         taking-all y =
             let s : plan_of is.0 (take n buffer) ≡ p = same-is _ p (sym (compiles is.0 m is.1) ∙ y) in
             let b = c.bytes n carries in
             let whole : m ≡ n = rule_end (take n buffer) is.0 m (rule-parsed (take n buffer) is.0 m is.1) ∙ taken-length in
             let a : planned p ≡ got is.0 m = (is-plan p is.0 m).1 (record { rule = ap rule_of (sym b) ∙ is.1; short = omega (arith, c.short n carries); bytes = ap (plan_of is.0) (sym b) ∙ s }) in
-            record { answer = rw a (ap taken.Rule (sym whole)); bytes = λ k f. let q : n ≡ k = cc in rw (← q) b }
+            record { answer = rw a (ap Some (sym whole)); bytes = λ k f. let q : n ≡ k = cc in rw (← q) b }
 
-        pub taking-not : b ≡ false → Taking p taken.NotPlan buffer
+        pub taking-not : b ≡ false → Taking p None buffer
         taking-not y =
             let z = c.bytes n carries in
             nothing (not-plan p (λ r k a. let i = ap rule_of z ∙ a.rule in clash (same_refl' (ap (plan_of r) z ∙ a.bytes)) (sym (compiles r k i) ∙ y)))

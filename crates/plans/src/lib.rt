@@ -13,7 +13,7 @@ ghost use Rattle.plans.specs.Laid.{IsRule, OrderFor, Ordering, size_for};
 ghost use Rattle.plans.specs.Taken.{Extracted, Taking};
 
 pub use bytes::bodies_at;
-use definitions::{BLOCKS, LONGEST, LONGEST_PLAN, Read, Reply, refuse};
+use definitions::{BLOCKS, LONGEST, LONGEST_PLAN, Reason, Refusal};
 
 // The order bytes of a rule's plan: how many there are, none or one for each block, and an array that they begin.
 #[derive(Drop)]
@@ -60,31 +60,20 @@ fn put_plan(rule: &[u8], order: &[u8], out: &mut [u8])
 }
 
 // A file's plan into out from its start.
-pub fn compile(file: &[u8], out: &mut [u8]) -> Reply
+pub fn compile(file: &[u8], out: &mut [u8]) -> Result<usize, Refusal>
     ensures { Wrote (to_compile file.now) out.old result out.new }
 {
     let mut rule = [0u8; LONGEST];
-    match rules::open(file, &mut rule) {
-        Reply::Refused(f) => Reply::Refused(f),
-        Reply::Done(n) => {
-            let o = order_of(&rule[..n]);
-            let count = o.count;
-            let order = o.bytes;
-            let size = bytes::plan_size(bytes::byte(&rule, 3), count, n);
-            if out.len() < size {
-                return refuse(12, 0);
-            }
-            put_plan(&rule[..n], &order[..count], out);
-            Reply::Done(size)
-        }
+    let n = rules::open(file, &mut rule)?;
+    let o = order_of(&rule[..n]);
+    let count = o.count;
+    let order = o.bytes;
+    let size = bytes::plan_size(bytes::byte(&rule, 3), count, n);
+    if out.len() < size {
+        return Err(Reason::NoRoom.at(0));
     }
-}
-
-// The rule that a plan carries has so many bytes, or the bytes are no plan.
-#[derive(Drop)]
-pub enum Taken {
-    Rule(usize),
-    NotPlan,
+    put_plan(&rule[..n], &order[..count], out);
+    Ok(size)
 }
 
 // Whether the rule compiles to these bytes.
@@ -101,58 +90,48 @@ fn compiles_to(rule: &[u8], plan: &[u8]) -> bool
     bytes::equal(&again[..size], plan)
 }
 
-// The rule that a plan carries, at the start of a buffer that any rule fits in, if it has a rule's length.
-fn extract(plan: &[u8], rule: &mut [u8]) -> Taken
+// The rule that a plan carries, at the start of a buffer that any rule fits in, if it has a rule's length; the answer is that length.
+fn extract(plan: &[u8], rule: &mut [u8]) -> Option<usize>
     requires { longest ≤ length rule.old }
     ensures { Extracted plan.now result rule.new }
 {
     if plan.len() < 8 {
-        return Taken::NotPlan;
+        return None;
     }
     let at = bytes::bodies_at(plan);
     if plan.len() < at {
-        return Taken::NotPlan;
+        return None;
     }
     let bodies = plan.len() - at;
     if LONGEST - 4 < bodies {
-        return Taken::NotPlan;
+        return None;
     }
     buffers::copy_at(rule, 0, &plan[..4]);
     buffers::copy_at(rule, 4, &plan[at..]);
-    Taken::Rule(bodies + 4)
+    Some(bodies + 4)
 }
 
-// Whether the bytes are a plan. The rule that they carry is left at the start of the buffer.
-pub fn take(plan: &[u8], rule: &mut [u8]) -> Taken
+// How many bytes the rule has that a plan carries, or none if the bytes are no plan. The rule is left at the start of the buffer.
+pub fn take(plan: &[u8], rule: &mut [u8]) -> Option<usize>
     requires { longest ≤ length rule.old }
     ensures { Taking plan.now result rule.new }
 {
-    match extract(plan, rule) {
-        Taken::NotPlan => Taken::NotPlan,
-        Taken::Rule(n) => match rules::read_rule(&rule[..n]) {
-            Read::Refused(_) => Taken::NotPlan,
-            Read::Next(_) => {
-                if compiles_to(&rule[..n], plan) {
-                    Taken::Rule(n)
-                } else {
-                    Taken::NotPlan
-                }
-            }
-        },
+    let n = extract(plan, rule)?;
+    rules::read_rule(&rule[..n]).ok()?;
+    if compiles_to(&rule[..n], plan) {
+        Some(n)
+    } else {
+        None
     }
 }
 
 // How many columns the lines of a plan's rows have.
-pub fn columns(plan: &[u8]) -> Reply
+pub fn columns(plan: &[u8]) -> Result<usize, Refusal>
     ensures { result ≡ columns_reply (planned plan.now) }
 {
     let mut rule = [0u8; LONGEST];
-    match take(plan, &mut rule) {
-        Taken::NotPlan => refuse(15, 0),
-        Taken::Rule(_) => {
-            let variables = bytes::byte(plan, 1);
-            let lc = buffers::word_at(plan, 4);
-            Reply::Done(closure::place(lc, variables))
-        }
-    }
+    take(plan, &mut rule).ok_or(Reason::NotPlan.at(0))?;
+    let variables = bytes::byte(plan, 1);
+    let lc = buffers::word_at(plan, 4);
+    Ok(closure::place(lc, variables))
 }

@@ -15,6 +15,9 @@ use Rattle.definitions.specs.Grammar.{StmtTag, set_tag, emit_tag, no_stmt, stmt_
 use Rattle.readers.specs.Readings.{stmt_at, stmt_body}
 use Rattle.readers.specs.Accepted.{Below, ExprIn, CondIn, StmtIn, BodyIn, EndIn, BlockIn, no_block, RuleIn}
 use Rattle.readers.proofs.Sound.{Sound, both, nothing, single, earlier, refusal, found, next, made, pair, tagged, choice, tested, deep, variable_sound, expr_sound, cond-sound, sound-got}
+use Rattle.definitions.specs.declared.Reason.{Reason}
+use Rattle.definitions.specs.Refusals.{number_of}
+use Rattle.definitions.specs.declared.Reason.TheVariants.{BadHeader, BadTag, BadTarget, EndsEarly, BytesAfter}
 
 -- both tests pass
 passed : (a b : Bool) → a && b ≡ true → (a ≡ true) × (b ≡ true)
@@ -38,7 +41,7 @@ module _ (v : ℕ) (s : List ℕ) where
       go : at < length s → (t : StmtTag) → Sound (StmtIn v) at (length s) (stmt_body t v s at)
       go h set_tag = earlier (length s) (StmtIn v) at (at + 1) _ (omega arith) (set-sound (at + 1))
       go h emit_tag = earlier (length s) (StmtIn v) at (at + 1) _ (omega arith) (emit_sound (at + 1))
-      go h no_stmt = refusal (length s) (StmtIn v) at 5 at (omega arith) (omega arith) (omega arith)
+      go h no_stmt = refusal (length s) (StmtIn v) at BadTag at (omega arith) (omega arith) (omega arith)
 
 -- what statements read before they set it, and what they set
 sets-in : (v : ℕ) (xs : List Stmt) → BodyIn v xs → Below v (sets xs)
@@ -80,13 +83,13 @@ module _ (ts : ℕ) (v : ℕ) where
 
   module _ (s : List ℕ) where
     end_body_lem : (E : ℕ → Got End) → ((m : ℕ) → Sound In m (length s) (E m)) → (at : ℕ) → at < length s → (t : EndTag) → Sound In at (length s) (end_body t ts v s E at)
-    end_body_lem E g at h goto_tag = earlier (length s) In at (at + 1) _ (omega arith) (made (length s) (λ t. t < ts) In Goto goto-in (at + 1) _ (tested s _ (λ t. ltb t ts) 7 (at + 1) (omega arith) (omega arith) (λ t e. ltb-true t ts e)))
-    end_body_lem E g at h jump_tag = earlier (length s) In at (at + 1) _ (omega arith) (made (length s) (λ t. t < ts) In Jump jump_in (at + 1) _ (tested s _ (λ t. ltb t ts) 7 (at + 1) (omega arith) (omega arith) (λ t e. ltb-true t ts e)))
+    end_body_lem E g at h goto_tag = earlier (length s) In at (at + 1) _ (omega arith) (made (length s) (λ t. t < ts) In Goto goto-in (at + 1) _ (tested s _ (λ t. ltb t ts) BadTarget (at + 1) (omega arith) (omega arith) (λ t e. ltb-true t ts e)))
+    end_body_lem E g at h jump_tag = earlier (length s) In at (at + 1) _ (omega arith) (made (length s) (λ t. t < ts) In Jump jump_in (at + 1) _ (tested s _ (λ t. ltb t ts) BadTarget (at + 1) (omega arith) (omega arith) (λ t e. ltb-true t ts e)))
     end_body_lem E g at h stop_tag = found (length s) In at Stop (at + 1) (omega arith) (omega arith) stop_in
     end_body_lem E g at h if_tag =
         earlier (length s) In at (at + 1) _ (omega arith) (next (length s) (CondIn v) In (at + 1) _ _ (cond-sound depth v s (at + 1)) (λ c m l u i.
         earlier (length s) In (at + 1) m _ (omega arith) (pair (length s) In In (If c) (if_in c i) E g m)))
-    end_body_lem E g at h bad_end = refusal (length s) In at 5 at (omega arith) (omega arith) (omega arith)
+    end_body_lem E g at h bad_end = refusal (length s) In at BadTag at (omega arith) (omega arith) (omega arith)
 
     pub end-sound : (d at : ℕ) → Sound In at (length s) (end_at d ts v s at)
     unfolding end_at
@@ -114,7 +117,7 @@ module _ (ts : ℕ) (v : ℕ) where
 
     pub block-sound : (f at : ℕ) → Sound Whole at (length s) (block_from f ts v s at)
     unfolding block_from
-    block-sound zero at = refusal (length s) Whole at 9 (length s) (omega arith) (omega arith) (omega arith)
+    block-sound zero at = refusal (length s) Whole at EndsEarly (length s) (omega arith) (omega arith) (omega arith)
     block-sound (suc f) at = block-body (λ m. block_from f ts v s m) (λ m. block-sound f m) at (stmt_tag (get_or s at 0))
 
 -- ---- rules
@@ -157,7 +160,7 @@ module _ (s : List ℕ) where
   abbrev Good : Rule → Type 0
   Good = RuleIn s
 
-  bad : (k p : ℕ) → 4 ≤ k → k ≤ 10 → p ≤ length s → Sound Good 3 (length s) (refused k p)
+  bad : (k : Reason) (p : ℕ) → 4 ≤ number_of k → number_of k ≤ 10 → p ≤ length s → Sound Good 3 (length s) (refused k p)
   bad k p l u h = refusal (length s) Good 3 k p l u h
 
   accepted :
@@ -180,13 +183,13 @@ module _ (s : List ℕ) where
   pub rule-sound : Sound Good 3 (length s) (parsed s)
   unfolding parsed headed
   rule-sound =
-      choice Good (length s) 3 (ltb (length s) 4) _ _ (λ _. bad 9 (length s) (omega arith) (omega arith) (omega arith)) (λ e. let l = ltb-false (length s) 4 e in
-      choice Good (length s) 3 (not (eqb (form_in s) 1)) _ _ (λ _. bad 4 0 (omega arith) (omega arith) (omega arith)) (λ m.
-      choice Good (length s) 3 (not (between 1 16 (variables_in s))) _ _ (λ _. bad 4 1 (omega arith) (omega arith) (omega arith)) (λ v.
-      choice Good (length s) 3 (not (leb (arguments_in s) (variables_in s))) _ _ (λ _. bad 4 2 (omega arith) (omega arith) (omega arith)) (λ a.
-      choice Good (length s) 3 (not (between 1 64 (blocks_in s))) _ _ (λ _. bad 4 3 (omega arith) (omega arith) (omega arith)) (λ n.
+      choice Good (length s) 3 (ltb (length s) 4) _ _ (λ _. bad EndsEarly (length s) (omega arith) (omega arith) (omega arith)) (λ e. let l = ltb-false (length s) 4 e in
+      choice Good (length s) 3 (not (eqb (form_in s) 1)) _ _ (λ _. bad BadHeader 0 (omega arith) (omega arith) (omega arith)) (λ m.
+      choice Good (length s) 3 (not (between 1 16 (variables_in s))) _ _ (λ _. bad BadHeader 1 (omega arith) (omega arith) (omega arith)) (λ v.
+      choice Good (length s) 3 (not (leb (arguments_in s) (variables_in s))) _ _ (λ _. bad BadHeader 2 (omega arith) (omega arith) (omega arith)) (λ a.
+      choice Good (length s) 3 (not (between 1 64 (blocks_in s))) _ _ (λ _. bad BadHeader 3 (omega arith) (omega arith) (omega arith)) (λ n.
       next (length s) (First (blocks_in s) (variables_in s) (blocks_in s)) Good 3 _ (whole_rule s) (blocks-sound (blocks_in s) (variables_in s) s l (blocks_in s)) (λ bs at h u f.
-      choice Good (length s) 3 (ltb at (length s)) _ _ (λ _. bad 10 at (omega arith) (omega arith) u) (λ _. found (length s) Good 3 _ at h u
+      choice Good (length s) 3 (ltb at (length s)) _ _ (λ _. bad BytesAfter at (omega arith) (omega arith) u) (λ _. found (length s) Good 3 _ at h u
       (accepted (eqb-true (form_in s) 1 (not-false _ m)) (holds 1 16 (variables_in s) v) (leb-true (arguments_in s) (variables_in s) (not-false _ a)) (holds 1 64 (blocks_in s) n) bs f))))))))
 
   -- ---- what is to be had of an accepted rule

@@ -11,14 +11,17 @@ use Rattle.definitions.specs.Rule.{Stmt, Set, Emit, End, Goto, Jump, If, Block}
 use Rattle.definitions.specs.Grammar.{Got, got, refused, then, read_of, byte_at, one, variable_at, target_at, expr_at, cond_at, depth, levels, set_at, emit_at, end_at, end_body, end_tag, EndTag, goto_tag, jump_tag, stop_tag, if_tag, bad_end}
 use Rattle.definitions.specs.Grammar.{StmtTag, set_tag, emit_tag, no_stmt, stmt_tag, with_first, block_body, block_from, block_at}
 use Rattle.definitions.specs.declared.Refusal.{Refusal}
-use Rattle.definitions.specs.declared.Read.{Read}
-use Rattle.definitions.specs.declared.Read.TheVariants.{Next, Refused}
+use Rattle.definitions.specs.Refusals.{Reply}
 use Rattle.readers.specs.Readings.{tag_at, due_of, second, stmt_at, stmt_body, is_stmt, begins}
 use Rattle.readers.specs.Accepted.{StmtIn}
-use Rattle.readers.specs.declared.exprs.Due.TheVariants as due
 use Rattle.readers.proofs.Laws.{made, goes, stays, then_one, then-two, by_tag, no_tag, Tagged, levelled}
 use Rattle.readers.proofs.Sound.{Sound}
 use Rattle.readers.proofs.Accepted.{set-sound, emit_sound}
+use Rattle.std.specs.Prelude.{Ok, Err}
+use Rattle.std.proofs.Common.{inl, inr}
+use Rattle.std.proofs.Math.Nat.{eq-or-lt_of_le}
+use mathlib.Core.Logic.{◌⊎◌}
+use Rattle.definitions.specs.declared.Reason.TheVariants.{BadTag, EndsEarly}
 
 -- ---- endings
 module _ (left : ℕ) (ts : ℕ) (v : ℕ) (s : List ℕ) (at : ℕ) where
@@ -29,27 +32,28 @@ module _ (left : ℕ) (ts : ℕ) (v : ℕ) (s : List ℕ) (at : ℕ) where
   unfolding end_at
   end-level = levelled left s at (λ d. end_at d ts v s at) (λ d t. end_body (end_tag t) ts v s (λ m. end_at d ts v s m) at) refl (λ d. refl)
 
-  pub end_none : (e : Refusal) → due_of (tag_at left s at) ≡ due.Refused e → Refused e ≡ read_of (end_at left ts v s at)
+  pub end_none : (e : Refusal) → due_of (tag_at left s at) ≡ Err e → Err e ≡ read_of (end_at left ts v s at)
   end_none e d = rw end-level (no_tag (tag_at left s at) _ e d)
 
-  module _ (r : Read) (tag : ℕ) (d : Tagged left s at tag) where
+  module _ (r : Reply) (tag : ℕ) (d : Tagged left s at tag) where
     end_by : (t : EndTag) → end_tag tag ≡ t → r ≡ read_of (end_body t ts v s E at) → r ≡ read_of (end_at left ts v s at)
     end_by t i e = rw (end-level, by_tag (tag_at left s at) (λ t. end_body (end_tag t) ts v s E at) tag d.is, i) e
 
-    pub end-goto : tag ≡ 0x30 → r ≡ read_of (target_at ts s (at + 1)) → r ≡ read_of (end_at left ts v s at)
-    end-goto i e = end_by goto_tag (ap end_tag i) (e ∙ sym (made Goto (target_at ts s (at + 1))))
+    pub end-goes : 0x30 ≤ tag → tag ≤ 0x31 → r ≡ read_of (target_at ts s (at + 1)) → r ≡ read_of (end_at left ts v s at)
+    end-goes l u e = go (eq-or-lt_of_le l)
+      where
+        go : (0x30 ≡ tag) ⊎ (0x30 < tag) → r ≡ read_of (end_at left ts v s at)
+        go (inl h) = let i : tag ≡ 0x30 = sym h in end_by goto_tag (ap end_tag i) (e ∙ sym (made Goto (target_at ts s (at + 1))))
+        go (inr h) = let i : tag ≡ 0x31 = omega arith in end_by jump_tag (ap end_tag i) (e ∙ sym (made Jump (target_at ts s (at + 1))))
 
-    pub end_jump : tag ≡ 0x31 → r ≡ read_of (target_at ts s (at + 1)) → r ≡ read_of (end_at left ts v s at)
-    end_jump i e = end_by jump_tag (ap end_tag i) (e ∙ sym (made Jump (target_at ts s (at + 1))))
-
-    pub end-stop : tag ≡ 0x32 → r ≡ Next (at + 1) → r ≡ read_of (end_at left ts v s at)
+    pub end-stop : tag ≡ 0x32 → r ≡ Ok (at + 1) → r ≡ read_of (end_at left ts v s at)
     unfolding read_of
     end-stop i e = end_by stop_tag (ap end_tag i) e
 
     pub end-if : tag ≡ 0x33 → r ≡ read_of (then (cond_at depth v s (at + 1)) (λ _ m. second E m)) → r ≡ read_of (end_at left ts v s at)
     end-if i e = end_by if_tag (ap end_tag i) (e ∙ sym (then-two If (cond_at depth v s (at + 1)) E))
 
-    pub end-bad : (tag ≡ 0x30 → ⊥) → (tag ≡ 0x31 → ⊥) → (tag ≡ 0x32 → ⊥) → (tag ≡ 0x33 → ⊥) → r ≡ Refused (record { number = 5; place = at }) → r ≡ read_of (end_at left ts v s at)
+    pub end-bad : (tag ≡ 0x30 → ⊥) → (tag ≡ 0x31 → ⊥) → (tag ≡ 0x32 → ⊥) → (tag ≡ 0x33 → ⊥) → r ≡ Err (record { reason = BadTag; place = at }) → r ≡ read_of (end_at left ts v s at)
     unfolding read_of
     end-bad f g h i e = end_by bad_end (simp (ne_eqb tag 0x30 f, ne_eqb tag 0x31 g, ne_eqb tag 0x32 h, ne_eqb tag 0x33 i)) e
 
@@ -63,10 +67,10 @@ module _ (v : ℕ) (s : List ℕ) (at : ℕ) where
       go (got t n) = refl
       go (refused k p) = refl
 
-  pub stmt_none : (e : Refusal) → due_of (tag_at 1 s at) ≡ due.Refused e → Refused e ≡ read_of (stmt_at v s at)
+  pub stmt_none : (e : Refusal) → due_of (tag_at 1 s at) ≡ Err e → Err e ≡ read_of (stmt_at v s at)
   stmt_none e d = rw stmt_level (no_tag (tag_at 1 s at) _ e d)
 
-  module _ (r : Read) (tag : ℕ) (d : Tagged 1 s at tag) where
+  module _ (r : Reply) (tag : ℕ) (d : Tagged 1 s at tag) where
     stmt-by : (t : StmtTag) → stmt_tag tag ≡ t → r ≡ read_of (stmt_body t v s at) → r ≡ read_of (stmt_at v s at)
     stmt-by t i e = rw (stmt_level, by_tag (tag_at 1 s at) (λ t. stmt_body (stmt_tag t) v s at) tag d.is, i) e
 
@@ -76,7 +80,7 @@ module _ (v : ℕ) (s : List ℕ) (at : ℕ) where
     pub stmt-emit : tag ≡ 0x21 → r ≡ read_of (expr_at depth v s (at + 1)) → r ≡ read_of (stmt_at v s at)
     stmt-emit i e = stmt-by emit_tag (ap stmt_tag i) (e ∙ sym (made Emit (expr_at depth v s (at + 1))))
 
-    pub stmt-bad : (tag ≡ 0x20 → ⊥) → (tag ≡ 0x21 → ⊥) → r ≡ Refused (record { number = 5; place = at }) → r ≡ read_of (stmt_at v s at)
+    pub stmt-bad : (tag ≡ 0x20 → ⊥) → (tag ≡ 0x21 → ⊥) → r ≡ Err (record { reason = BadTag; place = at }) → r ≡ read_of (stmt_at v s at)
     unfolding read_of
     stmt-bad f g e = stmt-by no_stmt (simp (ne_eqb tag 0x20 f, ne_eqb tag 0x21 g)) e
 
@@ -92,7 +96,7 @@ begins-there s at e = go (ltb at (length s)) refl
 
 module _ (ts : ℕ) (v : ℕ) (s : List ℕ) where
   -- past the end of the bytes there is no block, with any fuel
-  block_none : (f at : ℕ) → length s ≤ at → block_from f ts v s at ≡ refused 9 (length s)
+  block_none : (f at : ℕ) → length s ≤ at → block_from f ts v s at ≡ refused EndsEarly (length s)
   unfolding block_from end_at
   block_none zero at h = refl
   block_none (suc f) at h = simp (get_or-eq_default s 0 h, le-ltb at (length s) h)
@@ -141,10 +145,10 @@ module _ (ts : ℕ) (v : ℕ) (s : List ℕ) where
         go no_stmt e = refl
 
     -- the same of the readers' answers
-    pub block_goes : (m : ℕ) → begins s at ≡ true → read_of (stmt_at v s at) ≡ Next m → read_of (block_at ts v s at) ≡ read_of (block_at ts v s m)
+    pub block_goes : (m : ℕ) → begins s at ≡ true → read_of (stmt_at v s at) ≡ Ok m → read_of (block_at ts v s at) ≡ read_of (block_at ts v s m)
     block_goes m e h = ap read_of (block-stmt e) ∙ then_one with_first (stmt_at v s at) (block_at ts v s) ∙ sym (goes (stmt_at v s at) _ m _ h (λ _. refl))
 
-    pub block_refused : (r : Refusal) → begins s at ≡ true → read_of (stmt_at v s at) ≡ Refused r → read_of (block_at ts v s at) ≡ Refused r
+    pub block_refused : (r : Refusal) → begins s at ≡ true → read_of (stmt_at v s at) ≡ Err r → read_of (block_at ts v s at) ≡ Err r
     block_refused r e h = ap read_of (block-stmt e) ∙ sym (stays (stmt_at v s at) _ r h)
 
     pub block-done : begins s at ≡ false → read_of (block_at ts v s at) ≡ read_of (end_at levels ts v s at)

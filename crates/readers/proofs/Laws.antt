@@ -14,10 +14,10 @@ use Rattle.definitions.specs.Rule.{Expr, Cond, Const, Var, Neg, Op, Case, Compar
 use Rattle.definitions.specs.Grammar.{Got, got, refused, then, read_of, byte_at, one, two, constant_at, variable_at, expr_at, cond_at, expr_body, cond_body, expr_tag, cond_tag}
 use Rattle.definitions.specs.Grammar.{ExprTag, const_tag, var_tag, neg_tag, case_tag, bad_expr, op_tag, CondTag, not_tag, bad_cond, compare_tag, join_tag}
 use Rattle.definitions.specs.declared.Refusal.{Refusal}
-use Rattle.definitions.specs.declared.Read.{Read}
-use Rattle.definitions.specs.declared.Read.TheVariants.{Next, Refused}
+use Rattle.definitions.specs.Refusals.{Reply}
 use Rattle.readers.specs.Readings.{tag_at, due_of, second}
-use Rattle.readers.specs.declared.exprs.Due.TheVariants as due
+use Rattle.std.specs.Prelude.{Ok, Err}
+use Rattle.definitions.specs.declared.Reason.TheVariants.{BadTag, TooDeep, EndsEarly}
 
 -- ---- what a call's result is said to be, and what the arm of a `match` on it is told
 pub told : {A : Type 0} {x y z : A} → x ≡ y → x ≡ z → y ≡ z
@@ -33,13 +33,13 @@ past n t h f = go (eqb t n) refl
 
 -- ---- one reading after another
 -- after a reading that ends at n comes f there
-pub goes : {A B : Type 0} (p : Got A) (f : A → ℕ → Got B) (n : ℕ) (r : Read) → read_of p ≡ Next n → ((a : A) → r ≡ read_of (f a n)) → r ≡ read_of (then p f)
+pub goes : {A B : Type 0} (p : Got A) (f : A → ℕ → Got B) (n : ℕ) (r : Reply) → read_of p ≡ Ok n → ((a : A) → r ≡ read_of (f a n)) → r ≡ read_of (then p f)
 unfolding read_of
 goes (got a m) f n r e h = let q : m ≡ n = cc in rw q (h a)
 goes (refused k q) f n r e h = let z : ◌≡◌ {A = ℕ} 0 1 = cc in absurd (omega arith)
 
 -- a refusal stays
-pub stays : {A B : Type 0} (p : Got A) (f : A → ℕ → Got B) (e : Refusal) → read_of p ≡ Refused e → Refused e ≡ read_of (then p f)
+pub stays : {A B : Type 0} (p : Got A) (f : A → ℕ → Got B) (e : Refusal) → read_of p ≡ Err e → Err e ≡ read_of (then p f)
 unfolding read_of
 stays (got a m) f e h = let z : ◌≡◌ {A = ℕ} 0 1 = cc in absurd (omega arith)
 stays (refused k p) f e h = sym h
@@ -71,30 +71,30 @@ then-two f (refused k p) q = refl
 
 -- ---- the tag that is due
 -- where it is there, a level reads on by it
-pub by_tag : {A : Type 0} (p : Got ℕ) (f : ℕ → Got A) (t : ℕ) → due_of p ≡ due.Tag t → then p (λ t _. f t) ≡ f t
+pub by_tag : {A : Type 0} (p : Got ℕ) (f : ℕ → Got A) (t : ℕ) → due_of p ≡ Ok t → then p (λ t _. f t) ≡ f t
 unfolding due_of
 by_tag (got u n) f t e = let q : u ≡ t = cc in ap f q
 by_tag (refused k p) f t e = let z : ◌≡◌ {A = ℕ} 0 1 = cc in absurd (omega arith)
 
 -- where it is not, its refusal stays
-pub no_tag : {A : Type 0} (p : Got ℕ) (f : ℕ → ℕ → Got A) (e : Refusal) → due_of p ≡ due.Refused e → Refused e ≡ read_of (then p f)
+pub no_tag : {A : Type 0} (p : Got ℕ) (f : ℕ → ℕ → Got A) (e : Refusal) → due_of p ≡ Err e → Err e ≡ read_of (then p f)
 unfolding due_of read_of
 no_tag (got t n) f e h = let z : ◌≡◌ {A = ℕ} 0 1 = cc in absurd (omega arith)
-no_tag (refused k p) f e h = let q : record { number = k; place = p } ≡ e = cc in sym (ap Refused q)
+no_tag (refused k p) f e h = let q : record { reason = k; place = p } ≡ e = cc in sym (ap Err q)
 
 -- what is known where a tag has been read
 pub record Tagged (left : ℕ) (s : List ℕ) (at tag : ℕ) : Type 0 where
-  pub is : due_of (tag_at left s at) ≡ due.Tag tag
+  pub is : due_of (tag_at left s at) ≡ Ok tag
   pub there : at < length s
   pub level : 0 < left
 
-pub tagged : (left : ℕ) (s : List ℕ) (at tag : ℕ) → due_of (tag_at left s at) ≡ due.Tag tag → Tagged left s at tag
+pub tagged : (left : ℕ) (s : List ℕ) (at tag : ℕ) → due_of (tag_at left s at) ≡ Ok tag → Tagged left s at tag
 unfolding due_of
 tagged left s at tag e = let h = go (ltb at (length s)) (eqb left 0) refl refl e in record { is = e; there = h.0; level = h.1 }
   where
     go :
         (a b : Bool) → ltb at (length s) ≡ a → eqb left 0 ≡ b →
-        due_of (then (cond a (got (get_or s at 0) (at + 1)) (refused 9 (length s))) (λ t n. cond b (refused 8 at) (got t n))) ≡ due.Tag tag →
+        due_of (then (cond a (got (get_or s at 0) (at + 1)) (refused EndsEarly (length s))) (λ t n. cond b (refused TooDeep at) (got t n))) ≡ Ok tag →
         (at < length s) × (0 < left)
     go true false p q e = let h = ltb-true at (length s) p in let z = eqb-false left 0 q in (omega arith, omega arith)
     go true true p q e = let z : ◌≡◌ {A = ℕ} 0 1 = cc in absurd (omega arith)
@@ -103,11 +103,11 @@ tagged left s at tag e = let h = go (ltb at (length s)) (eqb left 0) refl refl e
 -- what reads by levels, X, reads the tag that is due and goes on by it with one level less
 pub levelled :
     {A : Type 0} (left : ℕ) (s : List ℕ) (at : ℕ) (X : ℕ → Got A) (f : ℕ → ℕ → Got A) →
-    X 0 ≡ then (byte_at s at) (λ t _. refused 8 at) → ((d : ℕ) → X (suc d) ≡ then (byte_at s at) (λ t _. f d t)) →
+    X 0 ≡ then (byte_at s at) (λ t _. refused TooDeep at) → ((d : ℕ) → X (suc d) ≡ then (byte_at s at) (λ t _. f d t)) →
     X left ≡ then (tag_at left s at) (λ t _. f (left - 1) t)
 levelled {A = A} zero s at X f z h = z ∙ go (byte_at s at)
   where
-    go : (b : Got ℕ) → then {B = A} b (λ t _. refused 8 at) ≡ then (then {B = ℕ} b (λ t n. refused 8 at)) (λ t _. f (0 - 1) t)
+    go : (b : Got ℕ) → then {B = A} b (λ t _. refused TooDeep at) ≡ then (then {B = ℕ} b (λ t n. refused TooDeep at)) (λ t _. f (0 - 1) t)
     go (got t n) = refl
     go (refused k p) = refl
 levelled {A = A} (suc d) s at X f z h = rw (eqb-suc-zero d, sub-one) (h d ∙ go (byte_at s at))
@@ -178,13 +178,13 @@ module _ (left v : ℕ) (s : List ℕ) (at : ℕ) where
   cond-level = levelled left s at (λ d. cond_at d v s at) (λ d t. cond_body (cond_tag t) (λ n. expr_at d v s n) (λ n. cond_at d v s n) at) refl (λ d. refl)
 
   -- no tag is read
-  pub expr_none : (e : Refusal) → due_of (tag_at left s at) ≡ due.Refused e → Refused e ≡ read_of (expr_at left v s at)
+  pub expr_none : (e : Refusal) → due_of (tag_at left s at) ≡ Err e → Err e ≡ read_of (expr_at left v s at)
   expr_none e d = rw expr_level (no_tag (tag_at left s at) _ e d)
 
-  pub cond-none : (e : Refusal) → due_of (tag_at left s at) ≡ due.Refused e → Refused e ≡ read_of (cond_at left v s at)
+  pub cond-none : (e : Refusal) → due_of (tag_at left s at) ≡ Err e → Err e ≡ read_of (cond_at left v s at)
   cond-none e d = rw cond-level (no_tag (tag_at left s at) _ e d)
 
-  module _ (r : Read) (tag : ℕ) (d : Tagged left s at tag) where
+  module _ (r : Reply) (tag : ℕ) (d : Tagged left s at tag) where
     expr-by : (t : ExprTag) → expr_tag tag ≡ t → r ≡ read_of (expr_body t v s E C at) → r ≡ read_of (expr_at left v s at)
     expr-by t i e = rw (expr_level, by_tag (tag_at left s at) (λ t. expr_body (expr_tag t) v s E C at) tag d.is, i) e
 
@@ -206,7 +206,7 @@ module _ (left v : ℕ) (s : List ℕ) (at : ℕ) where
     pub expr-case : tag ≡ 0x09 → r ≡ read_of (then (C (at + 1)) (λ _ n. second E n)) → r ≡ read_of (expr_at left v s at)
     expr-case i e = expr-by case_tag (ap expr_tag i) (e ∙ sym (then-two Case (C (at + 1)) E))
 
-    pub expr_bad : (tag < 1) ⊎ (9 < tag) → r ≡ Refused (record { number = 5; place = at }) → r ≡ read_of (expr_at left v s at)
+    pub expr_bad : (tag < 1) ⊎ (9 < tag) → r ≡ Err (record { reason = BadTag; place = at }) → r ≡ read_of (expr_at left v s at)
     unfolding read_of
     expr_bad h e = expr-by bad_expr (bad_expr_lem tag h) e
 
@@ -219,6 +219,6 @@ module _ (left v : ℕ) (s : List ℕ) (at : ℕ) where
     pub cond-join : 0x12 < tag → tag < 0x15 → r ≡ read_of (second C (at + 1)) → r ≡ read_of (cond_at left v s at)
     cond-join l h e = let o = join_tag_lem tag l h in cond-by (join_tag o.0) o.1 (e ∙ sym (two_made (Join o.0) C (at + 1)))
 
-    pub cond-bad : (tag < 0x10) ⊎ (0x14 < tag) → r ≡ Refused (record { number = 5; place = at }) → r ≡ read_of (cond_at left v s at)
+    pub cond-bad : (tag < 0x10) ⊎ (0x14 < tag) → r ≡ Err (record { reason = BadTag; place = at }) → r ≡ read_of (cond_at left v s at)
     unfolding read_of
     cond-bad h e = cond-by bad_cond (bad-cond tag h) e

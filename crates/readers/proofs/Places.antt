@@ -11,15 +11,16 @@ use borrow.Author.Tests.{ltb-false, eqb-true, eqb-false}
 use Rattle.definitions.specs.Rule.{Block, Rule, size, block_of}
 use Rattle.definitions.specs.Grammar.{Got, got, refused, then, read_of, one, block_at, form_in, variables_in, arguments_in, blocks_to, whole_rule, parsed}
 use Rattle.definitions.specs.Plan.{end_of, place_of}
-use Rattle.definitions.specs.declared.Read.TheVariants.{Next}
 use Rattle.readers.specs.Readings.{header_at}
 use Rattle.readers.specs.Accepted.{no_block, RuleIn}
 use Rattle.readers.proofs.Sound.{sound-got}
 use Rattle.readers.proofs.Accepted.{First, blocks-sound, rule-sound, rule-in}
 use Rattle.readers.proofs.RuleLaws.{blocks, rule-is, header-there}
+use Rattle.std.specs.Prelude.{Ok}
+use Rattle.definitions.specs.declared.Reason.TheVariants.{BytesAfter}
 
 -- where what was read ends
-pub next_place : {A : Type 0} (p : Got A) (n : ℕ) → read_of p ≡ Next n → n ≡ end_of p
+pub next_place : {A : Type 0} (p : Got A) (n : ℕ) → read_of p ≡ Ok n → n ≡ end_of p
 unfolding read_of
 next_place (got a m) n e = cc
 next_place (refused k q) n e = let z : ◌≡◌ {A = ℕ} 0 1 = cc in absurd (omega arith)
@@ -85,7 +86,7 @@ module _ (s : List ℕ) (r : Rule) (n : ℕ) (e : parsed s ≡ got r n) where
   inner : Through (blocks s) (whole_rule s) r n
   inner = through (blocks s) (whole_rule s) r n head.then-was
 
-  whole : (b : Bool) (x : Rule) (m : ℕ) → ltb m (length s) ≡ b → cond b (refused 10 m) (got x m) ≡ got r n → (x ≡ r) × (m ≡ n) × (length s ≤ m)
+  whole : (b : Bool) (x : Rule) (m : ℕ) → ltb m (length s) ≡ b → cond b (refused BytesAfter m) (got x m) ≡ got r n → (x ≡ r) × (m ≡ n) × (length s ≤ m)
   whole true x m q w = let z : ◌≡◌ {A = ℕ} 0 1 = cc in absurd (omega arith)
   whole false x m q w = (cc, (cc), ltb-false m (length s) q)
 

@@ -19,6 +19,8 @@ use Rattle.readers.specs.Readings.{is_stmt, begins}
 use Rattle.readers.proofs.BlockLaws.{begins-there}
 use Rattle.readers.proofs.TagBytes.{ExprByte, CondByte, StmtByte, EndByte, expr_byte, cond_byte, stmt_byte, end-byte}
 use Rattle.readers.proofs.Spelt.{every_append, in_turn_last, Spelt, joined, spelt_as, of_word, twos-is}
+use Rattle.definitions.specs.declared.Reason.TheVariants.{BadVariable, BadTarget, TooDeep}
+use Rattle.definitions.specs.declared.Reason.{Reason}
 
 -- ---- readings
 -- of what is read, where something is
@@ -74,8 +76,8 @@ module _ (s : List ℕ) where
   abbrev byte_of : (ℕ → Type 0) → Form ℕ
   byte_of P = record { keeps = P; bytes = λ k. k ∷ [] }
 
-  tested-read : (P : ℕ → Type 0) (test : ℕ → Bool) (number at : ℕ) → ((k : ℕ) → test k ≡ true → P k) → ReadAs (byte_of P) at (then (byte_at s at) (λ k n. cond (test k) (got k n) (refused number at)))
-  tested-read P test number at h = if_then (Here at) _ (byte_at s at) _ (byte-here at) (λ k n b. if_cond _ (test k) _ _ (λ e. (h k e, b)) (λ e. tt))
+  tested-read : (P : ℕ → Type 0) (test : ℕ → Bool) (why : Reason) (at : ℕ) → ((k : ℕ) → test k ≡ true → P k) → ReadAs (byte_of P) at (then (byte_at s at) (λ k n. cond (test k) (got k n) (refused why at)))
+  tested-read P test why at h = if_then (Here at) _ (byte_at s at) _ (byte-here at) (λ k n b. if_cond _ (test k) _ _ (λ e. (h k e, b)) (λ e. tt))
 
   abbrev constants : Form ℤ
   constants = record { keeps = InRange; bytes = constant_bytes }
@@ -105,7 +107,7 @@ module _ (s : List ℕ) where
     conds d = record { keeps = λ c. (cond_depth c ≤ d) × CondKeeps v c; bytes = cond_bytes }
 
     variable-read : (at : ℕ) → ReadAs (byte_of (λ k. k < v)) at (variable_at v s at)
-    variable-read at = tested-read (λ k. k < v) (λ k. ltb k v) 6 at (λ k e. ltb-true k v e)
+    variable-read at = tested-read (λ k. k < v) (λ k. ltb k v) BadVariable at (λ k e. ltb-true k v e)
 
     module _ (d at : ℕ) (there : at < length s) (E : ℕ → Got Expr) (C : ℕ → Got Cond) (e-read : (n : ℕ) → ReadAs (exprs d) n (E n)) (c_read : (n : ℕ) → ReadAs (conds d) n (C n)) where
       expr_body_lem : (t : ExprTag) → ExprByte (get_or s at 0) t → ReadAs (exprs (suc d)) at (expr_body t v s E C at)
@@ -130,13 +132,13 @@ module _ (s : List ℕ) where
       unfolding expr_at cond_at
 
       expr-read : (d at : ℕ) → ReadAs (exprs d) at (expr_at d v s at)
-      expr-read zero at = tag_read (exprs 0) at (λ t. refused 8 at) (λ l. tt)
+      expr-read zero at = tag_read (exprs 0) at (λ t. refused TooDeep at) (λ l. tt)
       expr-read (suc d) at =
           tag_read (exprs (suc d)) at (λ t. expr_body (expr_tag t) v s (λ n. expr_at d v s n) (λ n. cond_at d v s n) at)
           (λ l. expr_body_lem d at l _ _ (λ n. expr-read d n) (λ n. cond-read d n) (expr_tag (get_or s at 0)) (expr_byte (get_or s at 0)))
 
       cond-read : (d at : ℕ) → ReadAs (conds d) at (cond_at d v s at)
-      cond-read zero at = tag_read (conds 0) at (λ t. refused 8 at) (λ l. tt)
+      cond-read zero at = tag_read (conds 0) at (λ t. refused TooDeep at) (λ l. tt)
       cond-read (suc d) at =
           tag_read (conds (suc d)) at (λ t. cond_body (cond_tag t) (λ n. expr_at d v s n) (λ n. cond_at d v s n) at)
           (λ l. cond-body d at l _ _ (λ n. expr-read d n) (λ n. cond-read d n) (cond_tag (get_or s at 0)) (cond_byte (get_or s at 0)))
@@ -156,7 +158,7 @@ module _ (s : List ℕ) where
       all_blocks = record { keeps = Every (BlockKeeps n v); bytes = in_turn block_bytes }
 
       target-read : (at : ℕ) → ReadAs (byte_of (λ t. t < n)) at (target_at n s at)
-      target-read at = tested-read (λ t. t < n) (λ t. ltb t n) 7 at (λ t p. ltb-true t n p)
+      target-read at = tested-read (λ t. t < n) (λ t. ltb t n) BadTarget at (λ t p. ltb-true t n p)
 
       module _ (b : ℕ) where
         abbrev ts : ℕ
@@ -178,7 +180,7 @@ module _ (s : List ℕ) where
 
         end_read : (d at : ℕ) → ReadAs (ends d) at (end_at d ts v s at)
         unfolding end_at
-        end_read zero at = tag_read (ends 0) at (λ t. refused 8 at) (λ l. tt)
+        end_read zero at = tag_read (ends 0) at (λ t. refused TooDeep at) (λ l. tt)
         end_read (suc d) at =
             tag_read (ends (suc d)) at (λ t. end_body (end_tag t) ts v s (λ m. end_at d ts v s m) at)
             (λ l. end_body_lem d at l (λ m. end_at d ts v s m) (λ m. end_read d m) (end_tag (get_or s at 0)) (end-byte (get_or s at 0)))

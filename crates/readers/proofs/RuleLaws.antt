@@ -12,10 +12,11 @@ use borrow.Author.Tests.{ltb-false, lt-ltb, le-ltb}
 use Rattle.definitions.specs.Rule.{Block}
 use Rattle.definitions.specs.Grammar.{Got, got, refused, then, read_of, between, block_at, blocks_to, form_in, variables_in, arguments_in, blocks_in, headed, whole_rule, parsed}
 use Rattle.definitions.specs.declared.Refusal.{Refusal}
-use Rattle.definitions.specs.declared.Read.{Read}
-use Rattle.definitions.specs.declared.Read.TheVariants.{Next, Refused}
+use Rattle.definitions.specs.Refusals.{Reply}
 use Rattle.readers.specs.Readings.{header_at}
 use Rattle.readers.proofs.Laws.{goes, stays, then_one}
+use Rattle.std.specs.Prelude.{Ok, Err}
+use Rattle.definitions.specs.declared.Reason.TheVariants.{BadHeader, EndsEarly, BytesAfter}
 
 -- ---- blocks
 module _ (n v : ℕ) (s : List ℕ) where
@@ -25,23 +26,23 @@ module _ (n v : ℕ) (s : List ℕ) where
   next-block k = then_one (λ bs b. bs ++ (b ∷ [])) (blocks_to n v s k) (block_at n v s)
 
   -- what reading block k answers, as the next block's answer
-  by-block : (k at : ℕ) (r : Read) → read_of (blocks_to n v s k) ≡ Next at → read_of (block_at n v s at) ≡ r → read_of (blocks_to n v s (suc k)) ≡ r
+  by-block : (k at : ℕ) (r : Reply) → read_of (blocks_to n v s k) ≡ Ok at → read_of (block_at n v s at) ≡ r → read_of (blocks_to n v s (suc k)) ≡ r
   by-block k at r e h = next-block k ∙ sym (goes (blocks_to n v s k) (λ _ at. block_at n v s at) at r e (λ _. sym h))
 
-  pub blocks-next : (k at m : ℕ) → read_of (blocks_to n v s k) ≡ Next at → read_of (block_at n v s at) ≡ Next m → read_of (blocks_to n v s (k + 1)) ≡ Next m
-  blocks-next k at m e h = rw (add-one k) (by-block k at (Next m) e h)
+  pub blocks-next : (k at m : ℕ) → read_of (blocks_to n v s k) ≡ Ok at → read_of (block_at n v s at) ≡ Ok m → read_of (blocks_to n v s (k + 1)) ≡ Ok m
+  blocks-next k at m e h = rw (add-one k) (by-block k at (Ok m) e h)
 
   -- a refusal among the first blocks is that of all
-  blocks_stay : (k j : ℕ) (r : Refusal) → read_of (blocks_to n v s k) ≡ Refused r → read_of (blocks_to n v s (k + j)) ≡ Refused r
+  blocks_stay : (k j : ℕ) (r : Refusal) → read_of (blocks_to n v s k) ≡ Err r → read_of (blocks_to n v s (k + j)) ≡ Err r
   blocks_stay k zero r e = rw (add-zero k) e
   blocks_stay k (suc j) r e = rw (add-suc k j) (next-block (k + j) ∙ sym (stays (blocks_to n v s (k + j)) (λ _ at. block_at n v s at) r (blocks_stay k j r e)))
 
-  pub blocks-refused : (k at : ℕ) (r : Refusal) → k < n → read_of (blocks_to n v s k) ≡ Next at → read_of (block_at n v s at) ≡ Refused r → read_of (blocks_to n v s n) ≡ Refused r
+  pub blocks-refused : (k at : ℕ) (r : Refusal) → k < n → read_of (blocks_to n v s k) ≡ Ok at → read_of (block_at n v s at) ≡ Err r → read_of (blocks_to n v s n) ≡ Err r
   blocks-refused k at r h e f =
       let q : suc k + (n - suc k) ≡ n = omega arith in
-      ap (λ m. read_of (blocks_to n v s m)) (sym q) ∙ blocks_stay (suc k) (n - suc k) r (by-block k at (Refused r) e f)
+      ap (λ m. read_of (blocks_to n v s m)) (sym q) ∙ blocks_stay (suc k) (n - suc k) r (by-block k at (Err r) e f)
 
-  pub blocks-all : (k at : ℕ) → n ≤ k → k ≤ n → read_of (blocks_to n v s k) ≡ Next at → Next at ≡ read_of (blocks_to n v s n)
+  pub blocks-all : (k at : ℕ) → n ≤ k → k ≤ n → read_of (blocks_to n v s k) ≡ Ok at → Ok at ≡ read_of (blocks_to n v s n)
   blocks-all k at l u e = let q : k ≡ n = omega arith in sym e ∙ ap (λ m. read_of (blocks_to n v s m)) q
 
 -- ---- the rule
@@ -52,8 +53,8 @@ headed-then {A = A} s rest = go (ltb (length s) 4) (not (eqb (form_in s) 1)) (no
   where
     go :
         (a b c d e : Bool) →
-        cond a (refused 9 (length s)) (cond b (refused 4 0) (cond c (refused 4 1) (cond d (refused 4 2) (cond e (refused 4 3) rest)))) ≡
-        then {B = A} (cond a (refused 9 (length s)) (cond b (refused 4 0) (cond c (refused 4 1) (cond d (refused 4 2) (cond e (refused 4 3) (got (blocks_in s) 4)))))) (λ _ _. rest)
+        cond a (refused EndsEarly (length s)) (cond b (refused BadHeader 0) (cond c (refused BadHeader 1) (cond d (refused BadHeader 2) (cond e (refused BadHeader 3) rest)))) ≡
+        then {B = A} (cond a (refused EndsEarly (length s)) (cond b (refused BadHeader 0) (cond c (refused BadHeader 1) (cond d (refused BadHeader 2) (cond e (refused BadHeader 3) (got (blocks_in s) 4)))))) (λ _ _. rest)
     go true b c d e = refl
     go false true c d e = refl
     go false false true d e = refl
@@ -69,28 +70,28 @@ module _ (s : List ℕ) where
   unfolding parsed
   rule-is = headed-then s (then blocks (whole_rule s))
 
-  pub rule_headless : (r : Refusal) → read_of (header_at s) ≡ Refused r → Refused r ≡ read_of (parsed s)
+  pub rule_headless : (r : Refusal) → read_of (header_at s) ≡ Err r → Err r ≡ read_of (parsed s)
   rule_headless r e = stays (header_at s) (λ _ _. then blocks (whole_rule s)) r e ∙ ap read_of (sym rule-is)
 
-  module _ (h : ℕ) (e : read_of (header_at s) ≡ Next h) where
+  module _ (h : ℕ) (e : read_of (header_at s) ≡ Ok h) where
     pub header-there : 4 ≤ length s
     unfolding headed read_of
     header-there = go (ltb (length s) 4) _ refl e
       where
-        go : (b : Bool) (rest : Got ℕ) → ltb (length s) 4 ≡ b → read_of (cond b (refused 9 (length s)) rest) ≡ Next h → 4 ≤ length s
+        go : (b : Bool) (rest : Got ℕ) → ltb (length s) 4 ≡ b → read_of (cond b (refused EndsEarly (length s)) rest) ≡ Ok h → 4 ≤ length s
         go true rest q f = let z : ◌≡◌ {A = ℕ} 0 1 = cc in absurd (omega arith)
         go false rest q f = ltb-false (length s) 4 q
 
-    by_blocks : (r : Read) → r ≡ read_of (then blocks (whole_rule s)) → r ≡ read_of (parsed s)
+    by_blocks : (r : Reply) → r ≡ read_of (then blocks (whole_rule s)) → r ≡ read_of (parsed s)
     by_blocks r f = goes (header_at s) (λ _ _. then blocks (whole_rule s)) h r e (λ _. f) ∙ ap read_of (sym rule-is)
 
-    pub rule-refused : (r : Refusal) → read_of blocks ≡ Refused r → Refused r ≡ read_of (parsed s)
-    rule-refused r f = by_blocks (Refused r) (stays blocks (whole_rule s) r f)
+    pub rule-refused : (r : Refusal) → read_of blocks ≡ Err r → Err r ≡ read_of (parsed s)
+    rule-refused r f = by_blocks (Err r) (stays blocks (whole_rule s) r f)
 
-    pub rule-longer : (m : ℕ) → read_of blocks ≡ Next m → m < length s → Refused (record { number = 10; place = m }) ≡ read_of (parsed s)
+    pub rule-longer : (m : ℕ) → read_of blocks ≡ Ok m → m < length s → Err (record { reason = BytesAfter; place = m }) ≡ read_of (parsed s)
     unfolding read_of
     rule-longer m f l = by_blocks _ (goes blocks (whole_rule s) m _ f (λ bs. rw (lt-ltb m (length s) l)))
 
-    pub rule-whole : (m : ℕ) → read_of blocks ≡ Next m → length s ≤ m → Next m ≡ read_of (parsed s)
+    pub rule-whole : (m : ℕ) → read_of blocks ≡ Ok m → length s ≤ m → Ok m ≡ read_of (parsed s)
     unfolding read_of
     rule-whole m f l = by_blocks _ (goes blocks (whole_rule s) m _ f (λ bs. rw (le-ltb m (length s) l)))

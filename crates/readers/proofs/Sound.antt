@@ -12,13 +12,16 @@ use Rattle.definitions.specs.Rule.{Expr, Cond, Const, Var, Neg, Op, Case, Compar
 use Rattle.definitions.specs.Columns.{reads, looks}
 use Rattle.definitions.specs.Grammar.{Got, got, refused, then, read_of, byte_at, one, two, constant_at, variable_at, expr_at, cond_at, expr_body, cond_body, expr_tag, cond_tag}
 use Rattle.definitions.specs.Grammar.{ExprTag, const_tag, var_tag, neg_tag, case_tag, bad_expr, op_tag, CondTag, not_tag, bad_cond, compare_tag, join_tag}
-use Rattle.definitions.specs.declared.Read.TheVariants.{Next}
 use Rattle.readers.specs.Accepted.{Each, ExprIn, CondIn}
+use Rattle.std.specs.Prelude.{Ok}
+use Rattle.definitions.specs.declared.Reason.{Reason}
+use Rattle.definitions.specs.Refusals.{number_of}
+use Rattle.definitions.specs.declared.Reason.TheVariants.{BadTag, BadVariable, TooDeep, EndsEarly}
 
 -- of a reading at a place of so many bytes
 unfoldable pub Sound : {A : Type 0} → (A → Type 0) → ℕ → ℕ → Got A → Type 0
 Sound P at size (got a n) = (at < n) × (n ≤ size) × P a
-Sound P at size (refused k p) = (4 ≤ k) × (k ≤ 10) × (p ≤ size)
+Sound P at size (refused k p) = (4 ≤ number_of k) × (number_of k ≤ 10) × (p ≤ size)
 
 -- ---- sets
 -- what two sets hold together is what each holds
@@ -45,7 +48,7 @@ module _ (size : ℕ) where
     earlier at n (got a m) h g = (omega arith, g.1, g.2)
     earlier at n (refused k p) h g = g
 
-    pub refusal : (at k p : ℕ) → 4 ≤ k → k ≤ 10 → p ≤ size → Sound P at size (refused k p)
+    pub refusal : (at : ℕ) (k : Reason) (p : ℕ) → 4 ≤ number_of k → number_of k ≤ 10 → p ≤ size → Sound P at size (refused k p)
     unfolding Sound
     refusal at k p l u h = (l, u, h)
 
@@ -79,23 +82,23 @@ module _ (s : List ℕ) where
   unfolding anything
   byte-sound at =
       choice anything (length s) at (ltb at (length s)) _ _ (λ e. let h = ltb-true at (length s) e in found (length s) anything at _ _ (omega arith) (omega arith) tt)
-      (λ _. refusal (length s) anything at 9 (length s) (omega arith) (omega arith) (omega arith))
+      (λ _. refusal (length s) anything at EndsEarly (length s) (omega arith) (omega arith) (omega arith))
 
   -- a tag that is there, and what follows it
   pub tagged : {A : Type 0} (P : A → Type 0) (at : ℕ) (f : ℕ → Got A) → (at < length s → Sound P at (length s) (f (get_or s at 0))) → Sound P at (length s) (then (byte_at s at) (λ t _. f t))
   tagged P at f h = go (ltb at (length s)) refl
     where
-      go : (b : Bool) → ltb at (length s) ≡ b → Sound P at (length s) (then (cond b (got (get_or s at 0) (at + 1)) (refused 9 (length s))) (λ t _. f t))
+      go : (b : Bool) → ltb at (length s) ≡ b → Sound P at (length s) (then (cond b (got (get_or s at 0) (at + 1)) (refused EndsEarly (length s))) (λ t _. f t))
       go true e = h (ltb-true at (length s) e)
-      go false e = refusal (length s) P at 9 (length s) (omega arith) (omega arith) (omega arith)
+      go false e = refusal (length s) P at EndsEarly (length s) (omega arith) (omega arith) (omega arith)
 
   -- a byte that passes a test
-  pub tested : (P : ℕ → Type 0) (test : ℕ → Bool) (number at : ℕ) → 4 ≤ number → number ≤ 10 → ((k : ℕ) → test k ≡ true → P k) → Sound P at (length s) (then (byte_at s at) (λ k n. cond (test k) (got k n) (refused number at)))
-  tested P test number at l u i =
-      next (length s) anything P at (byte_at s at) _ (byte-sound at) (λ k n h g _. choice P (length s) at (test k) _ _ (λ e. found (length s) P at k n h g (i k e)) (λ _. refusal (length s) P at number at l u (omega arith)))
+  pub tested : (P : ℕ → Type 0) (test : ℕ → Bool) (why : Reason) (at : ℕ) → 4 ≤ number_of why → number_of why ≤ 10 → ((k : ℕ) → test k ≡ true → P k) → Sound P at (length s) (then (byte_at s at) (λ k n. cond (test k) (got k n) (refused why at)))
+  tested P test why at l u i =
+      next (length s) anything P at (byte_at s at) _ (byte-sound at) (λ k n h g _. choice P (length s) at (test k) _ _ (λ e. found (length s) P at k n h g (i k e)) (λ _. refusal (length s) P at why at l u (omega arith)))
 
   pub variable_sound : (v at : ℕ) → Sound (λ k. k < v) at (length s) (variable_at v s at)
-  variable_sound v at = tested (λ k. k < v) (λ k. ltb k v) 6 at (omega arith) (omega arith) (λ k e. ltb-true k v e)
+  variable_sound v at = tested (λ k. k < v) (λ k. ltb k v) BadVariable at (omega arith) (omega arith) (λ k e. ltb-true k v e)
 
   constant-sound : (v at : ℕ) → Sound (ExprIn v) at (length s) (one Const (constant_at s) at)
   unfolding reads
@@ -105,7 +108,7 @@ module _ (s : List ℕ) where
       four =
           choice (λ z. Unit {0}) (length s) at (leb (at + 4) (length s)) _ _
           (λ e. let h = leb-true (at + 4) (length s) e in found (length s) (λ z. Unit {0}) at _ _ (omega arith) (omega arith) tt)
-          (λ _. refusal (length s) (λ z. Unit {0}) at 9 (length s) (omega arith) (omega arith) (omega arith))
+          (λ _. refusal (length s) (λ z. Unit {0}) at EndsEarly (length s) (omega arith) (omega arith) (omega arith))
 
 -- ---- expressions and conditions
 module _ (s : List ℕ) (v : ℕ) (E : ℕ → Got Expr) (C : ℕ → Got Cond) where
@@ -121,18 +124,18 @@ module _ (s : List ℕ) (v : ℕ) (E : ℕ → Got Expr) (C : ℕ → Got Cond) 
         (next (length s) (CondIn v) (ExprIn v) (at + 1) (C (at + 1)) _ (c-sound (at + 1)) (λ c n l u h.
         earlier (length s) (ExprIn v) (at + 1) n _ (omega arith)
         (pair (length s) (ExprIn v) (ExprIn v) (Case c) (λ a b f g. both (λ j. j < v) (looks c) _ h (both (λ j. j < v) (reads a) (reads b) f g)) E e-sound n)))
-    expr_body_lem bad_expr = refusal (length s) (ExprIn v) at 5 at (omega arith) (omega arith) (omega arith)
+    expr_body_lem bad_expr = refusal (length s) (ExprIn v) at BadTag at (omega arith) (omega arith) (omega arith)
 
     cond-body : (t : CondTag) → Sound (CondIn v) at (length s) (cond_body t E C at)
     unfolding looks
     cond-body (compare_tag r) = earlier (length s) (CondIn v) at (at + 1) _ (omega arith) (pair (length s) (ExprIn v) (CondIn v) (Compare r) (λ a b f g. both (λ j. j < v) (reads a) (reads b) f g) E e-sound (at + 1))
     cond-body not_tag = earlier (length s) (CondIn v) at (at + 1) _ (omega arith) (made (length s) (CondIn v) (CondIn v) Not (λ c h. h) (at + 1) _ (c-sound (at + 1)))
     cond-body (join_tag j) = earlier (length s) (CondIn v) at (at + 1) _ (omega arith) (pair (length s) (CondIn v) (CondIn v) (Join j) (λ c d f g. both (λ j. j < v) (looks c) (looks d) f g) C c-sound (at + 1))
-    cond-body bad_cond = refusal (length s) (CondIn v) at 5 at (omega arith) (omega arith) (omega arith)
+    cond-body bad_cond = refusal (length s) (CondIn v) at BadTag at (omega arith) (omega arith) (omega arith)
 
 -- a level that is not left
-pub deep : {A : Type 0} (P : A → Type 0) (s : List ℕ) (at : ℕ) → Sound P at (length s) (then (byte_at s at) (λ t _. refused 8 at))
-deep P s at = tagged s P at (λ t. refused 8 at) (λ h. refusal (length s) P at 8 at (omega arith) (omega arith) (omega arith))
+pub deep : {A : Type 0} (P : A → Type 0) (s : List ℕ) (at : ℕ) → Sound P at (length s) (then (byte_at s at) (λ t _. refused TooDeep at))
+deep P s at = tagged s P at (λ t. refused TooDeep at) (λ h. refusal (length s) P at TooDeep at (omega arith) (omega arith) (omega arith))
 
 mutual
   unfolding expr_at
@@ -151,15 +154,15 @@ mutual
 
 -- ---- what the answers say
 module _ {A : Type 0} (P : A → Type 0) (at size : ℕ) (p : Got A) (g : Sound P at size p) where
-  pub sound-next : (n : ℕ) → read_of p ≡ Next n → (at < n) × (n ≤ size)
+  pub sound-next : (n : ℕ) → read_of p ≡ Ok n → (at < n) × (n ≤ size)
   unfolding Sound read_of
   sound-next n e = go p g e
     where
-      go : (p : Got A) → Sound P at size p → read_of p ≡ Next n → (at < n) × (n ≤ size)
+      go : (p : Got A) → Sound P at size p → read_of p ≡ Ok n → (at < n) × (n ≤ size)
       go (got a m) g e = let q : m ≡ n = cc in (omega arith, omega arith)
       go (refused k q) g e = let z : ◌≡◌ {A = ℕ} 0 1 = cc in absurd (omega arith)
 
-  pub sound-refused : (k q : ℕ) → p ≡ refused k q → (4 ≤ k) × (k ≤ 10) × (q ≤ size)
+  pub sound-refused : (k : Reason) (q : ℕ) → p ≡ refused k q → (4 ≤ number_of k) × (number_of k ≤ 10) × (q ≤ size)
   unfolding Sound
   sound-refused k q e = rw e at g
 

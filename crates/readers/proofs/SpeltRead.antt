@@ -20,6 +20,8 @@ use Rattle.readers.proofs.Laws.{expr_level, cond-level}
 use Rattle.readers.proofs.BlockLaws.{end-level, block-is}
 use Rattle.readers.proofs.TagBytes.{operator_tag, relation_tag, joint_tag}
 use Rattle.readers.proofs.Spelt.{every_at, in_turn_last, Spelt, parted, spelt_self, word_of_lem, reached}
+use Rattle.definitions.specs.declared.Reason.{Reason}
+use Rattle.definitions.specs.declared.Reason.TheVariants.{BadVariable, BadTarget}
 
 module _ (s : List ℕ) where
   -- ---- a reader gives a, wherever the bytes of a are spelt
@@ -44,11 +46,11 @@ module _ (s : List ℕ) where
   byte_gives : (at x : ℕ) → at < length s → get_or s at 0 ≡ x → byte_at s at ≡ got x (at + 1)
   byte_gives at x l e = rw (lt-ltb at (length s) l, e)
 
-  tested_gives : (test : ℕ → Bool) (number x : ℕ) → test x ≡ true → Gives (λ k. k ∷ []) (λ at. then (byte_at s at) (λ k n. cond (test k) (got k n) (refused number at))) x
-  tested_gives test number x t at n h = rw (byte_gives at x h.0 h.1, t, h.2)
+  tested_gives : (test : ℕ → Bool) (why : Reason) (x : ℕ) → test x ≡ true → Gives (λ k. k ∷ []) (λ at. then (byte_at s at) (λ k n. cond (test k) (got k n) (refused why at))) x
+  tested_gives test why x t at n h = rw (byte_gives at x h.0 h.1, t, h.2)
 
   variable_gives : (v x : ℕ) → x < v → Gives (λ k. k ∷ []) (variable_at v s) x
-  variable_gives v x l = tested_gives (λ k. ltb k v) 6 x (lt-ltb x v l)
+  variable_gives v x l = tested_gives (λ k. ltb k v) BadVariable x (lt-ltb x v l)
 
   constant_gives : (z : ℤ) → InRange z → Gives constant_bytes (constant_at s) z
   constant_gives z i at n h =
@@ -111,10 +113,10 @@ module _ (s : List ℕ) where
     unfolding end_bytes end_depth EndKeeps
     end-gives (Goto t) d h k at m st =
         end_tag_lem d ts v at goto_tag (omega arith) st.0 (ap end_tag st.1)
-        ∙ one_gives (λ x. x ∷ []) Goto (target_at ts s) t (tested_gives (λ t. ltb t ts) 7 t (lt-ltb t ts k)) (at + 1) m st.2
+        ∙ one_gives (λ x. x ∷ []) Goto (target_at ts s) t (tested_gives (λ t. ltb t ts) BadTarget t (lt-ltb t ts k)) (at + 1) m st.2
     end-gives (Jump t) d h k at m st =
         end_tag_lem d ts v at jump_tag (omega arith) st.0 (ap end_tag st.1)
-        ∙ one_gives (λ x. x ∷ []) Jump (target_at ts s) t (tested_gives (λ t. ltb t ts) 7 t (lt-ltb t ts k)) (at + 1) m st.2
+        ∙ one_gives (λ x. x ∷ []) Jump (target_at ts s) t (tested_gives (λ t. ltb t ts) BadTarget t (lt-ltb t ts k)) (at + 1) m st.2
     end-gives Stop d h k at m st = end_tag_lem d ts v at stop_tag (omega arith) st.0 (ap end_tag st.1) ∙ ap (got Stop) st.2
     end-gives (If c x y) d h k at m st =
         end_tag_lem d ts v at if_tag (omega arith) st.0 (ap end_tag st.1)

@@ -2,17 +2,18 @@
 use Rattle.std.specs.Prelude.{ℕ, ◌+◌, Bool, true, false, cond, List, eqb, get_or}
 use Rattle.definitions.specs.Rule.{Stmt}
 use Rattle.definitions.specs.Grammar.{Got, got, refused, then, byte_at, StmtTag, set_tag, emit_tag, no_stmt, stmt_tag, set_at, emit_at, headed, blocks_in}
-use Rattle.readers.specs.declared.exprs.Due.{Due}
-use Rattle.readers.specs.declared.exprs.Due.TheVariants.{Tag, Refused}
+use Rattle.definitions.specs.Refusals.{Reply}
+use Rattle.std.specs.Prelude.{Ok, Err}
+use Rattle.definitions.specs.declared.Reason.TheVariants.{BadTag, TooDeep}
 
 -- the tag at a place where so many levels may still stand: 9 goes before 8
 abbrev pub tag_at : ℕ → List ℕ → ℕ → Got ℕ
-tag_at left s at = then (byte_at s at) (λ t n. cond (eqb left 0) (refused 8 at) (got t n))
+tag_at left s at = then (byte_at s at) (λ t n. cond (eqb left 0) (refused TooDeep at) (got t n))
 
 -- the answer of the code for each case
-unfoldable pub due_of : Got ℕ → Due
-due_of (got t n) = Tag t
-due_of (refused k p) = Refused (record { number = k; place = p })
+unfoldable pub due_of : Got ℕ → Reply
+due_of (got t n) = Ok t
+due_of (refused k p) = Err (record { reason = k; place = p })
 
 -- two of a kind, of which the first is passed over
 abbrev pub second : {A : Type 0} → (ℕ → Got A) → ℕ → Got A
@@ -22,7 +23,7 @@ second read at = then (read at) (λ _ n. read n)
 abbrev pub stmt_body : StmtTag → ℕ → List ℕ → ℕ → Got Stmt
 stmt_body set_tag v s at = set_at v s (at + 1)
 stmt_body emit_tag v s at = emit_at v s (at + 1)
-stmt_body no_stmt v s at = refused 5 at
+stmt_body no_stmt v s at = refused BadTag at
 
 unfoldable pub stmt_at : ℕ → List ℕ → ℕ → Got Stmt
 stmt_at v s at = then (byte_at s at) (λ t _. stmt_body (stmt_tag t) v s at)

@@ -3,32 +3,25 @@ ghost use Rattle.std.specs.Prelude.{◌≡◌};
 ghost use Rattle.definitions.specs.Grammar.{read_of, end_at, block_at};
 ghost use Rattle.readers.specs.Readings.{begins, stmt_at};
 
-use crate::exprs::{Due, read_below, read_cond, read_expr, read_tag, read_variable};
-use definitions::{DEPTH, LEVELS, Read, misread};
+use crate::exprs::{read_below, read_cond, read_expr, read_tag, read_variable};
+use definitions::{DEPTH, LEVELS, Reason, Refusal};
 
 // The ending at a place: an if holds two more, with a level less.
-pub fn read_end(s: &[u8], at: usize, v: u8, blocks: u8, left: u8) -> Read
+pub fn read_end(s: &[u8], at: usize, v: u8, blocks: u8, left: u8) -> Result<usize, Refusal>
     ensures { result ≡ read_of (end_at left blocks v s.now at) }
 {
-    match read_tag(s, at, left) {
-        Due::Refused(e) => Read::Refused(e),
-        Due::Tag(tag) => {
-            let next = at + 1;
-            let less = left - 1;
-            match tag {
-                0x30 => read_below(s, next, blocks, 7),
-                0x31 => read_below(s, next, blocks, 7),
-                0x32 => Read::Next(next),
-                0x33 => match read_cond(s, next, v, DEPTH) {
-                    Read::Refused(e) => Read::Refused(e),
-                    Read::Next(n) => match read_end(s, n, v, blocks, less) {
-                        Read::Refused(e) => Read::Refused(e),
-                        Read::Next(m) => read_end(s, m, v, blocks, less),
-                    },
-                },
-                _ => misread(5, at),
-            }
+    let tag = read_tag(s, at, left)?;
+    let next = at + 1;
+    let less = left - 1;
+    match tag {
+        0x30 | 0x31 => read_below(s, next, blocks, Reason::BadTarget),
+        0x32 => Ok(next),
+        0x33 => {
+            let n = read_cond(s, next, v, DEPTH)?;
+            let m = read_end(s, n, v, blocks, less)?;
+            read_end(s, m, v, blocks, less)
         }
+        _ => Err(Reason::BadTag.at(at)),
     }
 }
 
@@ -44,35 +37,28 @@ pub fn begins_stmt(s: &[u8], at: usize) -> bool
 }
 
 // The statement at a place: a set's variable and expression, or an emit's expression.
-pub fn read_stmt(s: &[u8], at: usize, v: u8) -> Read
+pub fn read_stmt(s: &[u8], at: usize, v: u8) -> Result<usize, Refusal>
     ensures { result ≡ read_of (stmt_at v s.now at) }
 {
-    match read_tag(s, at, 1) {
-        Due::Refused(e) => Read::Refused(e),
-        Due::Tag(tag) => {
-            let next = at + 1;
-            match tag {
-                0x20 => match read_variable(s, next, v) {
-                    Read::Next(n) => read_expr(s, n, v, DEPTH),
-                    Read::Refused(e) => Read::Refused(e),
-                },
-                0x21 => read_expr(s, next, v, DEPTH),
-                _ => misread(5, at),
-            }
+    let tag = read_tag(s, at, 1)?;
+    let next = at + 1;
+    match tag {
+        0x20 => {
+            let n = read_variable(s, next, v)?;
+            read_expr(s, n, v, DEPTH)
         }
+        0x21 => read_expr(s, next, v, DEPTH),
+        _ => Err(Reason::BadTag.at(at)),
     }
 }
 
 // The block at a place: its statements, then its ending.
-pub fn read_block(s: &[u8], at: usize, v: u8, blocks: u8) -> Read
+pub fn read_block(s: &[u8], at: usize, v: u8, blocks: u8) -> Result<usize, Refusal>
     ensures { result ≡ read_of (block_at blocks v s.now at) }
 {
     let mut next = at;
     while begins_stmt(s, next) {
-        match read_stmt(s, next, v) {
-            Read::Next(n) => next = n,
-            Read::Refused(e) => return Read::Refused(e),
-        }
+        next = read_stmt(s, next, v)?;
     }
     read_end(s, next, v, blocks, LEVELS)
 }

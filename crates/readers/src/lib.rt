@@ -8,7 +8,7 @@ ghost use Rattle.std.specs.Prelude.{◌≡◌};
 ghost use Rattle.definitions.specs.Grammar.{read_of, between, blocks_to, parsed};
 ghost use Rattle.readers.specs.Readings.{header_at};
 
-use definitions::{BLOCKS, Read, VARIABLES, misread};
+use definitions::{BLOCKS, Reason, Refusal, VARIABLES};
 
 // Whether a number lies between two, both included.
 fn within(x: u8, low: u8, high: u8) -> bool
@@ -18,58 +18,46 @@ fn within(x: u8, low: u8, high: u8) -> bool
 }
 
 // The header: its four bytes are there, and the first bad one is told.
-fn read_header(s: &[u8]) -> Read
+fn read_header(s: &[u8]) -> Result<usize, Refusal>
     ensures { result ≡ read_of (header_at s.now) }
 {
     if s.len() < 4 {
-        return misread(9, s.len());
+        return Err(Reason::EndsEarly.at(s.len()));
     }
     if s[0] != 1 {
-        return misread(4, 0);
+        return Err(Reason::BadHeader.at(0));
     }
     if !within(s[1], 1, VARIABLES as u8) {
-        return misread(4, 1);
+        return Err(Reason::BadHeader.at(1));
     }
     if s[1] < s[2] {
-        return misread(4, 2);
+        return Err(Reason::BadHeader.at(2));
     }
     if !within(s[3], 1, BLOCKS as u8) {
-        return misread(4, 3);
+        return Err(Reason::BadHeader.at(3));
     }
-    Read::Next(4)
+    Ok(4)
 }
 
 // These many blocks, right after the header.
-fn read_blocks(s: &[u8], v: u8, blocks: u8) -> Read
+fn read_blocks(s: &[u8], v: u8, blocks: u8) -> Result<usize, Refusal>
     ensures { result ≡ read_of (blocks_to blocks v s.now blocks) }
 {
     let mut at = 4;
-    let mut block = 0;
-    while block < blocks {
-        match blocks::read_block(s, at, v, blocks) {
-            Read::Next(n) => at = n,
-            Read::Refused(e) => return Read::Refused(e),
-        }
-        block += 1;
+    for _block in 0..blocks {
+        at = blocks::read_block(s, at, v, blocks)?;
     }
-    Read::Next(at)
+    Ok(at)
 }
 
 // The whole of the bytes, read to their end: nothing may follow the last block.
-pub fn read_tree(s: &[u8]) -> Read
+pub fn read_tree(s: &[u8]) -> Result<usize, Refusal>
     ensures { result ≡ read_of (parsed s.now) }
 {
-    match read_header(s) {
-        Read::Refused(e) => Read::Refused(e),
-        Read::Next(_) => match read_blocks(s, s[1], s[3]) {
-            Read::Refused(e) => Read::Refused(e),
-            Read::Next(n) => {
-                if n < s.len() {
-                    misread(10, n)
-                } else {
-                    Read::Next(n)
-                }
-            }
-        },
+    read_header(s)?;
+    let n = read_blocks(s, s[1], s[3])?;
+    if n < s.len() {
+        return Err(Reason::BytesAfter.at(n));
     }
+    Ok(n)
 }

@@ -4,8 +4,9 @@ use Rattle.std.specs.List.{flat_map}
 use Rattle.std.specs.Fmt.{decimal, signed_decimal}
 use Rattle.io.specs.Digits.{hex_digit_ascii}
 use Rattle.definitions.specs.Values.{Word}
-use Rattle.definitions.specs.declared.Reply.{Reply}
-use Rattle.definitions.specs.declared.Reply.TheVariants.{Done, Refused}
+use Rattle.definitions.specs.Refusals.{Reply}
+use Rattle.std.specs.Prelude.{Ok, Err}
+use Rattle.definitions.specs.Refusals.{number_of}
 
 abbrev pub space : List ℕ
 space = 32 ∷ []
@@ -15,8 +16,8 @@ dash = 45 ∷ []
 
 -- `ok ` and the size written or the most rounds, or `refused `, the number and the place
 abbrev pub reply_text : Reply → List ℕ
-reply_text (Done n) = (111 ∷ 107 ∷ space) ++ decimal n
-reply_text (Refused f) = (114 ∷ 101 ∷ 102 ∷ 117 ∷ 115 ∷ 101 ∷ 100 ∷ space) ++ (decimal f.number ++ (space ++ decimal f.place))
+reply_text (Ok n) = (111 ∷ 107 ∷ space) ++ decimal n
+reply_text (Err f) = (114 ∷ 101 ∷ 102 ∷ 117 ∷ 115 ∷ 101 ∷ 100 ∷ space) ++ (decimal (number_of f.reason) ++ (space ++ decimal f.place))
 
 -- a byte's two digits, the higher first
 abbrev pub byte_digits : ℕ → List ℕ

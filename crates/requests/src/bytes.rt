@@ -1,10 +1,10 @@
 // Kinds 1 to 3, read, write and compile: from bytes to bytes.
 use crate::input::{MOST, Unserved};
 use crate::{input, output};
-use definitions::Reply;
+use definitions::Refusal;
 use std::io::{Read, Write};
 
-pub fn answer<F: FnOnce(&[u8], &mut [u8]) -> Reply, R: Read, W: Write>(
+pub fn answer<F: FnOnce(&[u8], &mut [u8]) -> Result<usize, Refusal>, R: Read, W: Write>(
     call: F,
     from: &mut R,
     to: &mut W,

@@ -3,16 +3,19 @@ ghost use Rattle.std.specs.Prelude.{OnOk};
 ghost use Rattle.std.specs.Io.KnownBytes.{Appends};
 ghost use Rattle.requests.specs.Text.{reply_text, hex_text, words_text};
 
-use definitions::Reply;
+use definitions::Refusal;
 use std::io;
 use std::io::Write;
 
-pub fn reply<W: Write>(to: &mut W, r: Reply) -> io::Result<()>
+pub fn reply<W: Write>(to: &mut W, r: Result<usize, Refusal>) -> io::Result<()>
     ensures { OnOk result (Appends (W.contents to.old) (W.contents to.new) (reply_text r)) }
 {
     match r {
-        Reply::Done(n) => write!(to, "ok {n}"),
-        Reply::Refused(f) => write!(to, "refused {} {}", f.number, f.place),
+        Ok(n) => write!(to, "ok {n}"),
+        Err(f) => {
+            let number = f.reason.number();
+            write!(to, "refused {} {}", number, f.place)
+        }
     }
 }
 

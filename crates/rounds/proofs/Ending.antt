@@ -24,6 +24,7 @@ use Rattle.evaluators.proofs.Reading.{no_got, then-got, one-got, two-got, byte-g
 use Rattle.evaluators.proofs.Skipping.{end-past, past_one}
 use Rattle.evaluators.proofs.Sizes.{cond-size, end-size}
 use Rattle.evaluators.proofs.Answers.{is-got, holds-is, held_fault_is}
+use Rattle.definitions.specs.declared.Reason.TheVariants.{BadTag, TooDeep}
 
 module _ (left v : ℕ) (s : List ℕ) (at : ℕ) (h : EndHere left v s at) where
   -- a tag stands there, and a level is left
@@ -32,7 +33,7 @@ module _ (left v : ℕ) (s : List ℕ) (at : ℕ) (h : EndHere left v s at) wher
   end-there = go left h.reads
     where
       go : (d : ℕ) → end_at d h.targets v s at ≡ got h.ending h.next → (at < length s) × (1 ≤ d)
-      go zero q = absurd (no_got 8 at _ _ (byte-got s at (λ t _. refused 8 at) _ _ q).1)
+      go zero q = absurd (no_got TooDeep at _ _ (byte-got s at (λ t _. refused TooDeep at) _ _ q).1)
       go (suc d) q = ((byte-got s at (λ t _. end_body (end_tag t) h.targets v s (λ m. end_at d h.targets v s m) at) _ _ q).0, omega arith)
 
   -- what follows the tag
@@ -83,7 +84,7 @@ module _ (left v : ℕ) (s : List ℕ) (at : ℕ) (h : EndHere left v s at) wher
   if_tag_lem a b c = go (dec_lt (get_or s at 0) 0x30) (dec_lt 0x33 (get_or s at 0))
     where
       bad : (0x30 ≤ get_or s at 0 → get_or s at 0 ≤ 0x33 → ⊥) → ⊥
-      bad out = no_got 5 at h.ending h.next (rw (end-bad (get_or s at 0) out) at end_is)
+      bad out = no_got BadTag at h.ending h.next (rw (end-bad (get_or s at 0) out) at end_is)
 
       go : Dec (get_or s at 0 < 0x30) → Dec (0x33 < get_or s at 0) → get_or s at 0 ≡ 0x33
       go (yes l) r = absurd (bad (λ x y. omega arith))

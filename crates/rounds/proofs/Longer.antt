@@ -13,6 +13,7 @@ use Rattle.definitions.specs.Grammar.{EndTag, goto_tag, jump_tag, stop_tag, if_t
 use Rattle.rounds.specs.Run.{Prefix}
 use Rattle.rounds.proofs.Stepping.{block-there}
 use Rattle.evaluators.proofs.Reading.{no_got, then-got, one-got, two-got, byte-got, constant-got, variable_got, target_got}
+use Rattle.definitions.specs.declared.Reason.TheVariants.{TooDeep, EndsEarly}
 
 pub begins : (s s' : List ℕ) → take (length s) s' ≡ s → length s ≤ length s' → Prefix s s'
 begins s s' e h = record { longer = h; same = λ k l. sym (get_or-take (length s) s' k 0 l) ∙ rw e }
@@ -84,14 +85,14 @@ mutual
   unfolding expr_at
 
   expr_over : (d v : ℕ) (s s' : List ℕ) → Prefix s s' → Over (λ at. expr_at d v s at) (λ at. expr_at d v s' at)
-  expr_over zero v s s' p at a n e = tag_over s s' p at (λ t. refused 8 at) (λ t. refused 8 at) a n (λ q. q) e
+  expr_over zero v s s' p at a n e = tag_over s s' p at (λ t. refused TooDeep at) (λ t. refused TooDeep at) a n (λ q. q) e
   expr_over (suc d) v s s' p at a n e =
       tag_over s s' p at (λ t. expr_body (expr_tag t) v s (λ n. expr_at d v s n) (λ n. cond_at d v s n) at) (λ t. expr_body (expr_tag t) v s' (λ n. expr_at d v s' n) (λ n. cond_at d v s' n) at) a n
       (expr_body_lem s s' p v (λ n. expr_at d v s n) (λ n. expr_at d v s' n) (λ n. cond_at d v s n) (λ n. cond_at d v s' n) (λ at a n e. expr_over d v s s' p at a n e) (λ at a n e. cond_over d v s s' p at a n e) at n (expr_tag (get_or s at 0)) a)
       e
 
   cond_over : (d v : ℕ) (s s' : List ℕ) → Prefix s s' → Over (λ at. cond_at d v s at) (λ at. cond_at d v s' at)
-  cond_over zero v s s' p at a n e = tag_over s s' p at (λ t. refused 8 at) (λ t. refused 8 at) a n (λ q. q) e
+  cond_over zero v s s' p at a n e = tag_over s s' p at (λ t. refused TooDeep at) (λ t. refused TooDeep at) a n (λ q. q) e
   cond_over (suc d) v s s' p at a n e =
       tag_over s s' p at (λ t. cond_body (cond_tag t) (λ n. expr_at d v s n) (λ n. cond_at d v s n) at) (λ t. cond_body (cond_tag t) (λ n. expr_at d v s' n) (λ n. cond_at d v s' n) at) a n
       (cond-body s s' p v (λ n. expr_at d v s n) (λ n. expr_at d v s' n) (λ n. cond_at d v s n) (λ n. cond_at d v s' n) (λ at a n e. expr_over d v s s' p at a n e) (λ at a n e. cond_over d v s s' p at a n e) at n (cond_tag (get_or s at 0)) a)
@@ -107,7 +108,7 @@ module _ (ts : ℕ) (v : ℕ) (s s' : List ℕ) (p : Prefix s s') where
 
   end-over : (d : ℕ) → Over (λ at. end_at d ts v s at) (λ at. end_at d ts v s' at)
   unfolding end_at
-  end-over zero at a m e = tag_over s s' p at (λ t. refused 8 at) (λ t. refused 8 at) a m (λ q. q) e
+  end-over zero at a m e = tag_over s s' p at (λ t. refused TooDeep at) (λ t. refused TooDeep at) a m (λ q. q) e
   end-over (suc d) at a m e =
       tag_over s s' p at (λ t. end_body (end_tag t) ts v s (λ m. end_at d ts v s m) at) (λ t. end_body (end_tag t) ts v s' (λ m. end_at d ts v s' m) at) a m
       (end_body_lem (λ m. end_at d ts v s m) (λ m. end_at d ts v s' m) (λ at a m e. end-over d at a m e) at m (end_tag (get_or s at 0)) a)
@@ -133,7 +134,7 @@ module _ (ts : ℕ) (v : ℕ) (s s' : List ℕ) (p : Prefix s s') where
 
   pub block-over : (f : ℕ) → Over (λ at. block_from f ts v s at) (λ at. block_from f ts v s' at)
   unfolding block_from
-  block-over zero at a m e = absurd (no_got 9 (length s) a m e)
+  block-over zero at a m e = absurd (no_got EndsEarly (length s) a m e)
   block-over (suc f) at a m e =
       let there = block-there v s at (record { bound = suc f; targets = ts; what = a; next = m; reads = e }) in
       rw (p.same at there) (block-body (λ m. block_from f ts v s m) (λ m. block_from f ts v s' m) (λ at a m e. block-over f at a m e) at m (stmt_tag (get_or s at 0)) a e)

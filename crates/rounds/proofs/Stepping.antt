@@ -31,6 +31,7 @@ use Rattle.evaluators.proofs.Sizes.{set-size, emit_size, first-size}
 use Rattle.evaluators.proofs.Answers.{is-got, value-is, fault-is}
 use Rattle.evaluators.proofs.Evaluating.{expr_there}
 use Rattle.rounds.proofs.Ending.{end-there}
+use Rattle.definitions.specs.declared.Reason.TheVariants.{BadTag, EndsEarly}
 
 -- what is read ends past where it begins
 expr_grows : (d v : ℕ) (s : List ℕ) (at : ℕ) (e : Expr) (n : ℕ) → expr_at d v s at ≡ got e n → (at < length s) × (at < n)
@@ -71,7 +72,7 @@ module _ (v : ℕ) (s : List ℕ) (at : ℕ) (h : StmtHere v s at) where
     where
       go : (b : Bool) → stmt_body (cond b emit_tag no_stmt) v s at ≡ got h.what h.next → EmitHere
       go true q = let p = one-got Emit (expr_at depth v s) (at + 1) h.what h.next q in record { value = p.0; reads = p.1; is = p.2 }
-      go false q = absurd (no_got 5 at h.what h.next q)
+      go false q = absurd (no_got BadTag at h.what h.next q)
 
   stmt_grows : at < h.next
   stmt_grows = go (ℕ_discrete (get_or s at 0) 0x20)
@@ -87,7 +88,7 @@ module _ (v : ℕ) (s : List ℕ) (at : ℕ) (h : StmtHere v s at) where
       go : (t : StmtTag) → stmt_body t v s at ≡ got h.what h.next → h.next ≡ at + stmt_size h.what
       go set_tag q = set-size v s at h.what h.next q
       go emit_tag q = emit_size v s at h.what h.next q
-      go no_stmt q = absurd (no_got 5 at h.what h.next q)
+      go no_stmt q = absurd (no_got BadTag at h.what h.next q)
 
 -- what the evaluator's answer says of the expression that stands there
 module _ {p : Got Expr} {e : Expr} {n : ℕ} (reads : p ≡ got e n) (at : ℕ) (env : List Word) where
@@ -169,7 +170,7 @@ module _ (v : ℕ) (s : List ℕ) (at : ℕ) (h : BlockHere v s at) where
   block-is = go h.bound h.reads
     where
       go : (k : ℕ) → block_from k h.targets v s at ≡ got h.what h.next → (f : ℕ) × (block_body (stmt_tag (get_or s at 0)) h.targets v s (λ m. block_from f h.targets v s m) at ≡ got h.what h.next)
-      go zero q = absurd (no_got 9 (length s) h.what h.next q)
+      go zero q = absurd (no_got EndsEarly (length s) h.what h.next q)
       go (suc f) q = (f, q)
 
   -- a byte stands there

@@ -17,10 +17,9 @@ use Rattle.definitions.specs.Cycles.{cycle_of}
 use Rattle.definitions.proofs.Cycled.{cycle-at}
 use Rattle.definitions.specs.Plan.{end_of}
 use Rattle.definitions.specs.Pages.{pages_for, file_of, unpacked}
-use Rattle.definitions.specs.Calls.{refusal, left, to_read, to_write, reply_in, bytes_in, Wrote}
+use Rattle.definitions.specs.Calls.{left, to_read, to_write, reply_in, bytes_in, Wrote}
 use Rattle.definitions.specs.declared.Refusal.{Refusal}
-use Rattle.definitions.specs.declared.Reply.{Reply}
-use Rattle.definitions.specs.declared.Reply.TheVariants.{Done, Refused}
+use Rattle.definitions.specs.Refusals.{Reply}
 use Rattle.pages.proofs.Refusals.{refuses, refused-only}
 use Rattle.pages.proofs.Trip.{Bytes, write_read, read_write}
 use Rattle.rules.specs.Replies.{Make, OfRule, bad, cycle, short, done, OfFile, page, holds, ToRead, ToWrite, long, may}
@@ -29,6 +28,10 @@ use Rattle.readers.proofs.Accepted.{rule-sound}
 use Rattle.readers.proofs.Places.{through, rule-header}
 use Rattle.rules.proofs.Uncycled.{rule-parsed, rule-bad, rule-cycled}
 use Rattle.rules.proofs.FileLaws.{write-good}
+use Rattle.std.specs.Prelude.{Ok, Err}
+use Rattle.definitions.specs.declared.Reason.TheVariants.{TooLong, NoRoom, GotoCycle}
+use Rattle.definitions.specs.Refusals.{refusal}
+use Rattle.definitions.specs.declared.Reason.{Reason}
 
 -- ---- reading, writing and compiling: each has one outcome
 module _ (what : Got (List ℕ)) (old : List ℕ) where
@@ -38,16 +41,16 @@ module _ (what : Got (List ℕ)) (old : List ℕ) where
       (e, w.buffer ∙ ap (λ (x : Reply). left x (bytes_in what) old) e ∙ sym w'.buffer)
 
   -- a refusal changes no byte
-  pub refusal-stays : (w : Refusal) (new : List ℕ) → Wrote what old (Refused w) new → new ≡ old
+  pub refusal-stays : (w : Refusal) (new : List ℕ) → Wrote what old (Err w) new → new ≡ old
   refusal-stays w new h = h.buffer
 
   -- where n bytes are written they are the call's own, and what lies beyond them stays
-  module _ (n : ℕ) (new : List ℕ) (h : Wrote what old (Done n) new) where
-    found : (g : Got (List ℕ)) → Done n ≡ reply_in (length old) g → (g ≡ got (bytes_in g) (end_of g)) × (length (bytes_in g) ≡ n)
+  module _ (n : ℕ) (new : List ℕ) (h : Wrote what old (Ok n) new) where
+    found : (g : Got (List ℕ)) → Ok n ≡ reply_in (length old) g → (g ≡ got (bytes_in g) (end_of g)) × (length (bytes_in g) ≡ n)
     unfolding reply_in bytes_in
     found (got xs m) e = go (ltb (length old) (length xs)) e
       where
-        go : (b : Bool) → Done n ≡ cond b (refusal 12 0) (Done (length xs)) → (got xs m ≡ got xs m) × (length xs ≡ n)
+        go : (b : Bool) → Ok n ≡ cond b (refusal NoRoom 0) (Ok (length xs)) → (got xs m ≡ got xs m) × (length xs ≡ n)
         go true q = let z : ◌≡◌ {A = ℕ} 0 1 = cc in absurd (omega arith)
         go false q = (refl, cc)
     found (refused k p) e = let z : ◌≡◌ {A = ℕ} 0 1 = cc in absurd (omega arith)
@@ -62,16 +65,16 @@ module _ (what : Got (List ℕ)) (old : List ℕ) where
     done-beyond = rw (h.buffer, ← (found what h.reply).1) (drop-append_seam (bytes_in what) _)
 
 -- with room for all bytes, all are written
-all-written : (what : Got (List ℕ)) (xs : List ℕ) (m : ℕ) (old : List ℕ) (r : Reply) (new : List ℕ) → what ≡ got xs m → length xs ≤ length old → Wrote what old r new → (r ≡ Done (length xs)) × (take (length xs) new ≡ xs)
+all-written : (what : Got (List ℕ)) (xs : List ℕ) (m : ℕ) (old : List ℕ) (r : Reply) (new : List ℕ) → what ≡ got xs m → length xs ≤ length old → Wrote what old r new → (r ≡ Ok (length xs)) × (take (length xs) new ≡ xs)
 unfolding reply_in bytes_in
 all-written what xs m old r new e l w =
-    let d : r ≡ Done (length xs) = w.reply ∙ rw (e, le-ltb (length old) (length xs) l) in
+    let d : r ≡ Ok (length xs) = w.reply ∙ rw (e, le-ltb (length old) (length xs) l) in
     (d, rw (w.buffer, d, e) (take-append_seam xs _))
 
 -- ---- each reply is given exactly if its row holds
 
 -- bytes that are no rule: what is read first, or a cycle
-no_rule : (make : Make) (room : ℕ) (s : List ℕ) (k p : ℕ) → rule_of s ≡ refused k p → OfRule make s room (refusal k p)
+no_rule : (make : Make) (room : ℕ) (s : List ℕ) (k : Reason) (p : ℕ) → rule_of s ≡ refused k p → OfRule make s room (refusal k p)
 unfolding rule_of
 no_rule make room s k p e = go (parsed s) refl e
   where
@@ -83,10 +86,10 @@ no_rule make room s k p e = go (parsed s) refl e
         rw f at found
     go (got r n) i e = on (ltb (cycle_of (size r) (goto_in r)) (size r)) refl e
       where
-        on : (b : Bool) → ltb (cycle_of (size r) (goto_in r)) (size r) ≡ b → cond b (refused 16 (cycle_of (size r) (goto_in r))) (got r n) ≡ refused k p → OfRule make s room (refusal k p)
+        on : (b : Bool) → ltb (cycle_of (size r) (goto_in r)) (size r) ≡ b → cond b (refused GotoCycle (cycle_of (size r) (goto_in r))) (got r n) ≡ refused k p → OfRule make s room (refusal k p)
         on true t e =
-            let f : refusal 16 (cycle_of (size r) (goto_in r)) ≡ refusal k p = let z : 16 ≡ k = cc in let y : cycle_of (size r) (goto_in r) ≡ p = cc in rw (← z, y) in
-            let found : OfRule make s room (refusal 16 (cycle_of (size r) (goto_in r))) = cycle i (cycle-at (size r) (goto_in r) (ltb-true (cycle_of (size r) (goto_in r)) (size r) t)) in
+            let f : refusal GotoCycle (cycle_of (size r) (goto_in r)) ≡ refusal k p = let z : GotoCycle ≡ k = cc in let y : cycle_of (size r) (goto_in r) ≡ p = cc in rw (← z, y) in
+            let found : OfRule make s room (refusal GotoCycle (cycle_of (size r) (goto_in r))) = cycle i (cycle-at (size r) (goto_in r) (ltb-true (cycle_of (size r) (goto_in r)) (size r) t)) in
             rw f at found
         on false t e = let z : ◌≡◌ {A = ℕ} 0 1 = cc in absurd (omega arith)
 
@@ -98,7 +101,7 @@ module _ (make : Make) (room : ℕ) where
   unfolding reply_in
   of_rule s = go (rule_of s) refl
     where
-      sized : (r : Rule) (n : ℕ) → rule_of s ≡ got r n → (b : Bool) → ltb room (length (make r s)) ≡ b → OfRule make s room (cond b (refusal 12 0) (Done (length (make r s))))
+      sized : (r : Rule) (n : ℕ) → rule_of s ≡ got r n → (b : Bool) → ltb room (length (make r s)) ≡ b → OfRule make s room (cond b (refusal NoRoom 0) (Ok (length (make r s))))
       sized r n e true i = short e (ltb-true room (length (make r s)) i)
       sized r n e false i = done e (ltb-false room (length (make r s)) i)
 
@@ -145,7 +148,7 @@ module _ (s : List ℕ) (room : ℕ) where
   unfolding to_write reply_in
   to_write_lem = go (ltb longest (length s)) refl
     where
-      go : (b : Bool) → ltb longest (length s) ≡ b → ToWrite s room (reply_in room (cond b (refused 11 0) (then (rule_of s) (λ r n. got (file_of s) n))))
+      go : (b : Bool) → ltb longest (length s) ≡ b → ToWrite s room (reply_in room (cond b (refused TooLong 0) (then (rule_of s) (λ r n. got (file_of s) n))))
       go true i = long (ltb-true longest (length s) i)
       go false i = may (ltb-false longest (length s) i) (of_rule (λ r s. file_of s) room s)
 
@@ -159,7 +162,7 @@ write_exactly s old r new w q = (λ e. rw (sym w.reply ∙ e) at (to_write_lem s
 
 -- ---- the round trips
 -- what is read after it was written: the same bytes
-module _ (s out : List ℕ) (n : ℕ) (out' : List ℕ) (w : Wrote (to_write s) out (Done n) out') where
+module _ (s out : List ℕ) (n : ℕ) (out' : List ℕ) (w : Wrote (to_write s) out (Ok n) out') where
   record Kept (xs : List ℕ) (m : ℕ) : Type 0 where
     rule : Rule
     is : rule_of s ≡ got rule m
@@ -170,7 +173,7 @@ module _ (s out : List ℕ) (n : ℕ) (out' : List ℕ) (w : Wrote (to_write s) 
   unfolding to_write
   kept xs m e = go (ltb longest (length s)) refl e
     where
-      go : (b : Bool) → ltb longest (length s) ≡ b → cond b (refused 11 0) (then (rule_of s) (λ r n. got (file_of s) n)) ≡ got xs m → Kept xs m
+      go : (b : Bool) → ltb longest (length s) ≡ b → cond b (refused TooLong 0) (then (rule_of s) (λ r n. got (file_of s) n)) ≡ got xs m → Kept xs m
       go true i q = let z : ◌≡◌ {A = ℕ} 0 1 = cc in absurd (omega arith)
       go false i q =
           let t = through (rule_of s) (λ r n. got (file_of s) n) xs m q in
@@ -187,13 +190,13 @@ module _ (s out : List ℕ) (n : ℕ) (out' : List ℕ) (w : Wrote (to_write s) 
       let f : take n out' ≡ file_of s = done-bytes (to_write s) out n out' w ∙ written.bytes in
       rw f (write_read s (omega (arith, rule-header s written.rule (end_of (to_write s)) (rule-parsed s written.rule (end_of (to_write s)) written.is))) written.brief)
 
-  pub written_read : (b : List ℕ) (r : Reply) (b' : List ℕ) → length s ≤ length b → Wrote (to_read (take n out')) b r b' → (r ≡ Done (length s)) × (take (length s) b' ≡ s)
+  pub written_read : (b : List ℕ) (r : Reply) (b' : List ℕ) → length s ≤ length b → Wrote (to_read (take n out')) b r b' → (r ≡ Ok (length s)) × (take (length s) b' ≡ s)
   unfolding to_read
   written_read b r b' l h = all-written (to_read (take n out')) s (end_of (to_write s)) b r b' (rw (written-holds, written.is)) l h
 
 -- what is written after it was read: the same file, byte for byte
-module _ (file out : List ℕ) (n : ℕ) (out' : List ℕ) (bytes : Bytes file) (w : Wrote (to_read file) out (Done n) out') where
-  pub read-written : (b : List ℕ) (r : Reply) (b' : List ℕ) → length file ≤ length b → Wrote (to_write (take n out')) b r b' → (r ≡ Done (length file)) × (take (length file) b' ≡ file)
+module _ (file out : List ℕ) (n : ℕ) (out' : List ℕ) (bytes : Bytes file) (w : Wrote (to_read file) out (Ok n) out') where
+  pub read-written : (b : List ℕ) (r : Reply) (b' : List ℕ) → length file ≤ length b → Wrote (to_write (take n out')) b r b' → (r ≡ Ok (length file)) × (take (length file) b' ≡ file)
   unfolding to_read read_of
   read-written b r b' l h =
       let xs = bytes_in (to_read file) in

@@ -15,8 +15,7 @@ use Rattle.definitions.specs.Values.{Val}
 use Rattle.definitions.specs.Direct.{start, after}
 use Rattle.definitions.specs.Faulting.{Among, Tells}
 use Rattle.definitions.specs.Limits.{Every, BlockKeeps, Limits}
-use Rattle.definitions.specs.declared.Reply.{Reply}
-use Rattle.definitions.specs.declared.Reply.TheVariants.{Done}
+use Rattle.definitions.specs.Refusals.{Reply}
 use Rattle.definitions.proofs.Faults.{run_tells}
 use Rattle.pages.proofs.Trip.{Bytes, read_write}
 use Rattle.rules.specs.Replies.{Make, OfRule, bad, cycle, short, done, OfFile, page, holds, ToWrite, long, may}
@@ -29,6 +28,7 @@ use Rattle.readers.proofs.SpeltSmall.{rule-small}
 use Rattle.readers.proofs.ReadSpelt.{blocks-spelt}
 use Rattle.rules.proofs.Uncycled.{rule-parsed, rule_no_cycle, rule-whole}
 use Rattle.rules.proofs.Promises.{file-exactly, write_exactly}
+use Rattle.std.specs.Prelude.{Ok}
 
 -- ---- what is read
 module _ (s : List ℕ) (r : Rule) (n : ℕ) (e : rule_of s ≡ got r n) where
@@ -83,7 +83,7 @@ row_tells s small r n e q rounds args = rw (read-bytes s r n e small) (run_tells
 
 -- ---- the calls
 module _ (make : Make) (s : List ℕ) (room n : ℕ) where
-  rule-accepted : Bytes s → (q : Reply) → q ≡ Done n → OfRule make s room q → Accepts make s room n
+  rule-accepted : Bytes s → (q : Reply) → q ≡ Ok n → OfRule make s room q → Accepts make s room n
   rule-accepted small q i (bad e _ _ _) = let z : ◌≡◌ {A = ℕ} 0 1 = cc in absurd (omega arith)
   rule-accepted small q i (cycle e l) = let z : ◌≡◌ {A = ℕ} 0 1 = cc in absurd (omega arith)
   rule-accepted small q i (short e l) = let z : ◌≡◌ {A = ℕ} 0 1 = cc in absurd (omega arith)
@@ -92,36 +92,36 @@ module _ (make : Make) (s : List ℕ) (room n : ℕ) where
       let w : length (make r s) ≡ n = cc in
       record { rule = r; limits = h.1; written = h.0; size = sym w; fits = omega arith }
 
-  accepted-rule : Accepts make s room n → OfRule make s room (Done n)
+  accepted-rule : Accepts make s room n → OfRule make s room (Ok n)
   accepted-rule a =
       let r = a.rule in
       let e : rule_of s ≡ got r (length (bytes_of r)) = rw a.written (rule-whole (bytes_of r) r (length (bytes_of r)) (rule_gives r a.limits) a.limits.no_cycle) in
       rw a.size (done e (omega (arith, a.size, a.fits)))
 
 -- writing: a rule that is not over-long, in its pages
-pub write_accepts : (s old : List ℕ) (q : Reply) (new : List ℕ) → Bytes s → Wrote (to_write s) old q new → (n : ℕ) → (q ≡ Done n) ↔ ((length s ≤ longest) × Accepts (λ r s. file_of s) s (length old) n)
+pub write_accepts : (s old : List ℕ) (q : Reply) (new : List ℕ) → Bytes s → Wrote (to_write s) old q new → (n : ℕ) → (q ≡ Ok n) ↔ ((length s ≤ longest) × Accepts (λ r s. file_of s) s (length old) n)
 write_accepts s old q new small w n = (
   λ i. to q i ((write_exactly s old q new w q).0 refl),
-  λ h. (write_exactly s old q new w (Done n)).1 (may h.0 (accepted-rule (λ r s. file_of s) s (length old) n h.1)),
+  λ h. (write_exactly s old q new w (Ok n)).1 (may h.0 (accepted-rule (λ r s. file_of s) s (length old) n h.1)),
 )
   where
-    to : (q : Reply) → q ≡ Done n → ToWrite s (length old) q → (length s ≤ longest) × Accepts (λ r s. file_of s) s (length old) n
+    to : (q : Reply) → q ≡ Ok n → ToWrite s (length old) q → (length s ≤ longest) × Accepts (λ r s. file_of s) s (length old) n
     to q i (long l) = let z : ◌≡◌ {A = ℕ} 0 1 = cc in absurd (omega arith)
     to q i (may l h) = (l, rule-accepted (λ r s. file_of s) s (length old) n small q i h)
 
 -- reading and compiling: a file whose pages hold a rule
 pub file-accepts :
     (make : Make) (file old : List ℕ) (q : Reply) (new : List ℕ) → Bytes file → Wrote (then (unpacked file) (λ s _. then (rule_of s) (λ r n. got (make r s) n))) old q new →
-    (n : ℕ) → (q ≡ Done n) ↔ ((s : List ℕ) × (m : ℕ) × (unpacked file ≡ got s m) × Accepts make s (length old) n)
+    (n : ℕ) → (q ≡ Ok n) ↔ ((s : List ℕ) × (m : ℕ) × (unpacked file ≡ got s m) × Accepts make s (length old) n)
 file-accepts make file old q new small w n = (
   λ i. to q i ((file-exactly make file old q new w q).0 refl),
-  λ h. (file-exactly make file old q new w (Done n)).1 (holds h.2 (accepted-rule make h.0 (length old) n h.3)),
+  λ h. (file-exactly make file old q new w (Ok n)).1 (holds h.2 (accepted-rule make h.0 (length old) n h.3)),
 )
   where
-    to : (q : Reply) → q ≡ Done n → OfFile make file (length old) q → (s : List ℕ) × (m : ℕ) × (unpacked file ≡ got s m) × Accepts make s (length old) n
+    to : (q : Reply) → q ≡ Ok n → OfFile make file (length old) q → (s : List ℕ) × (m : ℕ) × (unpacked file ≡ got s m) × Accepts make s (length old) n
     to q i (page h) = let z : ◌≡◌ {A = ℕ} 0 1 = cc in absurd (omega arith)
     to q i (holds {s} e h) = (s, _, e, rule-accepted make s (length old) n (read_write file s _ small e).bytes q i h)
 
-pub read-accepts : (file old : List ℕ) (q : Reply) (new : List ℕ) → Bytes file → Wrote (to_read file) old q new → (n : ℕ) → (q ≡ Done n) ↔ ((s : List ℕ) × (m : ℕ) × (unpacked file ≡ got s m) × Accepts (λ r s. s) s (length old) n)
+pub read-accepts : (file old : List ℕ) (q : Reply) (new : List ℕ) → Bytes file → Wrote (to_read file) old q new → (n : ℕ) → (q ≡ Ok n) ↔ ((s : List ℕ) × (m : ℕ) × (unpacked file ≡ got s m) × Accepts (λ r s. s) s (length old) n)
 unfolding to_read
 read-accepts file old q new small w = file-accepts (λ r s. s) file old q new small w

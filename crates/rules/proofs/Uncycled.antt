@@ -8,11 +8,10 @@ use lib.Dec.{ltb}
 use lib.ListN.{length, get_or}
 use borrow.Author.Tests.{ltb-false, lt-ltb, le-ltb}
 use Rattle.definitions.specs.Rule.{Rule, size}
-use Rattle.definitions.specs.Grammar.{Got, got, refused, then, read_of, misread, parsed, uncycled, rule_of, longest}
+use Rattle.definitions.specs.Grammar.{Got, got, refused, then, read_of, parsed, uncycled, rule_of, longest}
 use Rattle.definitions.specs.Paths.{goto_in, Step, GotoPath, one, more, NoCycle, LowestOnCycle}
 use Rattle.definitions.specs.Cycles.{cycle_of}
 use Rattle.definitions.specs.declared.Refusal.{Refusal}
-use Rattle.definitions.specs.declared.Read.TheVariants.{Next, Refused}
 use Rattle.readers.proofs.Accepted.{rule-in}
 use Rattle.readers.proofs.Places.{rule-header}
 use Rattle.flows.specs.Flow.{Ruled}
@@ -20,6 +19,10 @@ use Rattle.closure.specs.Tables.{edge_in}
 use Rattle.rules.proofs.FileLaws.{read-got, read-refused}
 use Rattle.definitions.proofs.Cycled.{cycle-none, cycle-lowest, cycle-free}
 use Rattle.definitions.proofs.Ordered.{Rises, rises_no_cycle}
+use Rattle.std.specs.Prelude.{Ok, Err}
+use Rattle.definitions.specs.declared.Reason.TheVariants.{GotoCycle}
+use Rattle.definitions.specs.Refusals.{refusal}
+use Rattle.definitions.specs.declared.Reason.{Reason}
 
 -- ---- the gotos of two tables that agree on the blocks
 module _ (n : ℕ) (edge edge' : ℕ → ℕ → Bool) (same : (b t : ℕ) → b < n → t < n → edge b t ≡ edge' b t) where
@@ -43,7 +46,7 @@ module _ (n : ℕ) (edge edge' : ℕ → ℕ → Bool) (same : (b t : ℕ) → b
 -- ---- what is read, and what is a rule
 module _ (r : Rule) (n : ℕ) where
   -- refused exactly at the lowest block on a cycle
-  pub cycled : (b : ℕ) → LowestOnCycle (size r) (goto_in r) b → uncycled r n ≡ refused 16 b
+  pub cycled : (b : ℕ) → LowestOnCycle (size r) (goto_in r) b → uncycled r n ≡ refused GotoCycle b
   cycled b l =
       let c = (cycle-lowest (size r) (goto_in r) b).1 l in
       rw (c.0, lt-ltb b (size r) c.1)
@@ -57,7 +60,7 @@ module _ (s : List ℕ) (r : Rule) (n : ℕ) where
   accepted (refused k p) e = let z : ◌≡◌ {A = ℕ} 0 1 = cc in absurd (omega arith)
   accepted (got x m) e = go (ltb (cycle_of (size x) (goto_in x)) (size x)) refl e
     where
-      go : (b : Bool) → ltb (cycle_of (size x) (goto_in x)) (size x) ≡ b → cond b (refused 16 (cycle_of (size x) (goto_in x))) (got x m) ≡ got r n → (got x m ≡ got r n) × NoCycle (size r) (goto_in r)
+      go : (b : Bool) → ltb (cycle_of (size x) (goto_in x)) (size x) ≡ b → cond b (refused GotoCycle (cycle_of (size x) (goto_in x))) (got x m) ≡ got r n → (got x m ≡ got r n) × NoCycle (size r) (goto_in r)
       go true t e = let z : ◌≡◌ {A = ℕ} 0 1 = cc in absurd (omega arith)
       go false t e =
           let same : x ≡ r = cc in
@@ -80,21 +83,21 @@ module _ (s : List ℕ) (r : Rule) (n : ℕ) where
   rises-whole e h = rule-whole e (rises_no_cycle (size r) (goto_in r) h)
 
 -- bytes that are refused while they are read, and bytes whose gotos form a cycle
-pub rule-bad : (s : List ℕ) (k p : ℕ) → parsed s ≡ refused k p → rule_of s ≡ refused k p
+pub rule-bad : (s : List ℕ) (k : Reason) (p : ℕ) → parsed s ≡ refused k p → rule_of s ≡ refused k p
 unfolding rule_of
 rule-bad s k p e = rw e
 
-pub rule-cycled : (s : List ℕ) (r : Rule) (n b : ℕ) → parsed s ≡ got r n → LowestOnCycle (size r) (goto_in r) b → rule_of s ≡ refused 16 b
+pub rule-cycled : (s : List ℕ) (r : Rule) (n b : ℕ) → parsed s ≡ got r n → LowestOnCycle (size r) (goto_in r) b → rule_of s ≡ refused GotoCycle b
 unfolding rule_of
 rule-cycled s r n b e l = rw e (cycled r n b l)
 
 -- ---- what the code finds
 module _ (s : List ℕ) where
-  pub tell_refused : (w : Refusal) → read_of (parsed s) ≡ Refused w → Refused w ≡ read_of (rule_of s)
+  pub tell_refused : (w : Refusal) → read_of (parsed s) ≡ Err w → Err w ≡ read_of (rule_of s)
   unfolding rule_of read_of
   tell_refused w e = let q = read-refused (parsed s) w e in rw q
 
-  module _ (m : ℕ) (e : read_of (parsed s) ≡ Next m) (short : length s ≤ longest) where
+  module _ (m : ℕ) (e : read_of (parsed s) ≡ Ok m) (short : length s ≤ longest) where
     is : (r : Rule) × (parsed s ≡ got r m)
     is = read-got (parsed s) m e
 
@@ -108,10 +111,10 @@ module _ (s : List ℕ) where
       count : get_or s 3 0 ≡ size is.0
       count = sym (rule-in s is.0 m is.1).blocks_are
 
-      pub tell_none : NoCycle (get_or s 3 0) (edge_in gotos) → Next m ≡ read_of (rule_of s)
+      pub tell_none : NoCycle (get_or s 3 0) (edge_in gotos) → Ok m ≡ read_of (rule_of s)
       unfolding read_of
       tell_none h = rw (rule-whole s is.0 m is.1 (none_as (size is.0) (edge_in gotos) (goto_in is.0) (told is.0 m is.1) (rw count at h)))
 
-      pub tell-at : (b : ℕ) → LowestOnCycle (get_or s 3 0) (edge_in gotos) b → misread 16 b ≡ read_of (rule_of s)
+      pub tell-at : (b : ℕ) → LowestOnCycle (get_or s 3 0) (edge_in gotos) b → refusal GotoCycle b ≡ read_of (rule_of s)
       unfolding read_of rule_of
       tell-at b h = rw is.1 (rw (cycled is.0 m b (lowest_as (size is.0) (edge_in gotos) (goto_in is.0) (told is.0 m is.1) b (rw count at h))))

@@ -6,77 +6,59 @@ ghost use Rattle.definitions.specs.Grammar.{read_of, rule_of, longest};
 ghost use Rattle.definitions.specs.Calls.{Wrote, to_read, to_write};
 ghost use Rattle.rules.specs.Opened.{Opened};
 
-use definitions::{LONGEST, Read, Reply, misread, refuse};
+use definitions::{LONGEST, Reason, Refusal};
 
 // Whether the bytes are a rule: read to their end, with no cycle of gotos.
-pub fn read_rule(s: &[u8]) -> Read
+pub fn read_rule(s: &[u8]) -> Result<usize, Refusal>
     requires { length s.now ≤ longest }
     ensures { result ≡ read_of (rule_of s.now) }
 {
-    match readers::read_tree(s) {
-        Read::Refused(f) => Read::Refused(f),
-        Read::Next(n) => {
-            let gotos = flows::gotos_of(s);
-            let blocks = s[3] as usize;
-            match orders::first_cycle(blocks, &gotos) {
-                None => Read::Next(n),
-                Some(b) => misread(16, b),
-            }
-        }
+    let n = readers::read_tree(s)?;
+    let gotos = flows::gotos_of(s);
+    let blocks = s[3] as usize;
+    match orders::first_cycle(blocks, &gotos) {
+        None => Ok(n),
+        Some(b) => Err(Reason::GotoCycle.at(b)),
     }
 }
 
 // The rule in a file, at the start of a buffer that any rule fits in: its length, or why there is none.
-pub fn open(file: &[u8], rule: &mut [u8]) -> Reply
+pub fn open(file: &[u8], rule: &mut [u8]) -> Result<usize, Refusal>
     requires { longest ≤ length rule.old }
     ensures { Opened (to_read file.now) result rule.new }
 {
-    match pages::scan(file) {
-        Reply::Refused(f) => Reply::Refused(f),
-        Reply::Done(n) => {
-            pages::unpack(file, rule);
-            match read_rule(&rule[..n]) {
-                Read::Refused(f) => Reply::Refused(f),
-                Read::Next(_) => Reply::Done(n),
-            }
-        }
-    }
+    let n = pages::scan(file)?;
+    pages::unpack(file, rule);
+    read_rule(&rule[..n])?;
+    Ok(n)
 }
 
 // A file's rule into out from its start.
-pub fn read(file: &[u8], out: &mut [u8]) -> Reply
+pub fn read(file: &[u8], out: &mut [u8]) -> Result<usize, Refusal>
     ensures { Wrote (to_read file.now) out.old result out.new }
 {
     let mut rule = [0u8; LONGEST];
-    match open(file, &mut rule) {
-        Reply::Refused(f) => Reply::Refused(f),
-        Reply::Done(n) => {
-            if out.len() < n {
-                return refuse(12, 0);
-            }
-            buffers::copy_at(out, 0, &rule[..n]);
-            Reply::Done(n)
-        }
+    let n = open(file, &mut rule)?;
+    if out.len() < n {
+        return Err(Reason::NoRoom.at(0));
     }
+    buffers::copy_at(out, 0, &rule[..n]);
+    Ok(n)
 }
 
 // A rule's file into out from its start.
-pub fn write(rule: &[u8], out: &mut [u8]) -> Reply
+pub fn write(rule: &[u8], out: &mut [u8]) -> Result<usize, Refusal>
     ensures { Wrote (to_write rule.now) out.old result out.new }
 {
     let n = rule.len();
     if LONGEST < n {
-        return refuse(11, 0);
+        return Err(Reason::TooLong.at(0));
     }
-    match read_rule(rule) {
-        Read::Refused(f) => Reply::Refused(f),
-        Read::Next(_) => {
-            let size = pages::file_size(n);
-            if out.len() < size {
-                return refuse(12, 0);
-            }
-            pages::put_file(rule, out);
-            Reply::Done(size)
-        }
+    read_rule(rule)?;
+    let size = pages::file_size(n);
+    if out.len() < size {
+        return Err(Reason::NoRoom.at(0));
     }
+    pages::put_file(rule, out);
+    Ok(size)
 }

@@ -6,9 +6,9 @@ use Rattle.definitions.specs.Columns.{flow_of, LC}
 use Rattle.definitions.specs.Batch.{Budgets, budget_of, record_size, starts_of, states_of, records_of, table_of, most_of}
 use Rattle.definitions.specs.Finder.{most_rows, most_quota}
 use Rattle.definitions.specs.Calls.{most_budget, left}
-use Rattle.definitions.specs.declared.Reply.TheVariants.{Done}
 use Rattle.layouts.specs.Layout.{width, lines_in, Known}
 use Rattle.layouts.specs.declared.Layout.{Layout}
+use Rattle.std.specs.Prelude.{Ok}
 
 -- numbers that keep to their limits: so many values, and so many words of the two buffers
 pub record Allowed (l : Layout) (rows : ℕ) (bs : Budgets) (values out work : ℕ) : Type 0 where
@@ -34,5 +34,5 @@ Started r values n work work' = work' ≡ lines_in r 0 (starts_of r values n) ++
 -- what a run leaves: the direct run's rows
 pub record RowsRun (r : Rule) (values : List Word) (rows : ℕ) (bs : Budgets) (q : ℕ) (out work : List Word) (most : ℕ) (out' work' : List Word) : Type 0 where
   pub most' : most ≡ most_of (states_of r values rows bs q)
-  pub records : out' ≡ left (Done most) (records_of q (states_of r values rows bs q)) out
-  pub table : work' ≡ left (Done most) (table_of r.variables (LC (flow_of r)) (states_of r values rows bs q)) work
+  pub records : out' ≡ left (Ok most) (records_of q (states_of r values rows bs q)) out
+  pub table : work' ≡ left (Ok most) (table_of r.variables (LC (flow_of r)) (states_of r values rows bs q)) work

@@ -5,39 +5,42 @@ use mathlib.Core.Path.{◌≡◌, sym, ap, ◌∙◌}
 use mathlib.Core.List.{List}
 use Rattle.definitions.specs.Values.{Word}
 use Rattle.definitions.specs.Grammar.{Got}
-use Rattle.definitions.specs.Calls.{refusal, Wrote, Batch, Ran}
+use Rattle.definitions.specs.Calls.{Wrote, Batch, Ran}
 use Rattle.definitions.specs.declared.Refusal.{Refusal}
-use Rattle.definitions.specs.declared.Reply.{Reply}
-use Rattle.definitions.specs.declared.Reply.TheVariants.{Done, Refused}
+use Rattle.definitions.specs.Refusals.{Reply}
 use Rattle.tap.specs.Packed.{half, packed, most_number, Clear, Stands}
+use Rattle.std.specs.Prelude.{Ok, Err}
+use Rattle.definitions.specs.Refusals.{number_of, refusal}
+use Rattle.definitions.specs.declared.Reason.{Reason}
+use Rattle.definitions.proofs.Numbered.{number_once}
 
 -- ---- replies
 
-pub pack_done : (r : Reply) (n : ℕ) → r ≡ Done n → n ≡ packed r
+pub pack_done : (r : Reply) (n : ℕ) → r ≡ Ok n → n ≡ packed r
 unfolding packed
 pack_done r n e = rw e
 
-module _ (r : Reply) (f : Refusal) (e : r ≡ Refused f) where
-  pub pack_refused : f.number * half + f.place ≡ packed r
+module _ (r : Reply) (f : Refusal) (e : r ≡ Err f) where
+  pub pack_refused : number_of f.reason * half + f.place ≡ packed r
   unfolding packed
   pack_refused = rw e
 
-  pub pack_room : Clear r → (f.number ≤ most_number) × (f.place < half)
+  pub pack_room : Clear r → (number_of f.reason ≤ most_number) × (f.place < half)
   unfolding Clear
   pack_room h = (rw e at h).1
 
 -- two replies with one answer are one reply
 pub one-reply : (x y : Reply) → Clear x → Clear y → packed x ≡ packed y → x ≡ y
 unfolding packed Clear
-one-reply (Done m) (Done n) h l e = rw e
-one-reply (Done m) (Refused g) h l e = absurd (omega arith)
-one-reply (Refused f) (Done n) h l e = absurd (omega arith)
-one-reply (Refused f) (Refused g) h l e =
-    let a : f.number ≡ g.number = omega arith in
+one-reply (Ok m) (Ok n) h l e = rw e
+one-reply (Ok m) (Err g) h l e = absurd (omega arith)
+one-reply (Err f) (Ok n) h l e = absurd (omega arith)
+one-reply (Err f) (Err g) h l e =
+    let a : f.reason ≡ g.reason = number_once f.reason g.reason (omega arith) in
     let b : f.place ≡ g.place = omega arith in
-    same f.number g.number f.place g.place a b
+    same f.reason g.reason f.place g.place a b
   where
-    same : (k l p q : ℕ) → k ≡ l → p ≡ q → refusal k p ≡ refusal l q
+    same : (k : Reason) (l : Reason) (p q : ℕ) → k ≡ l → p ≡ q → refusal k p ≡ refusal l q
     same k l p q a b = rw (a, b)
 
 -- ---- no second outcome

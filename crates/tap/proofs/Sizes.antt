@@ -16,12 +16,11 @@ use Rattle.definitions.specs.Grammar.{Got, got, refused, then, parsed, uncycled,
 use Rattle.definitions.specs.Paths.{goto_in}
 use Rattle.definitions.specs.Cycles.{cycle_of}
 use Rattle.definitions.specs.Pages.{most_pages, page_size, length_in, check_in, check_of, page_in, payload_of, length_ok, filler_ok, size_ok, page_at, payload_to, unpacked, file_of}
-use Rattle.definitions.specs.Calls.{refusal, to_read, to_write, to_compile, reply_in, Wrote, Batch, Ran, brought, most_budget}
+use Rattle.definitions.specs.Calls.{to_read, to_write, to_compile, reply_in, Wrote, Batch, Ran, brought, most_budget}
 use Rattle.definitions.specs.Finder.{most_rows}
 use Rattle.definitions.specs.Columns.{flow_of}
 use Rattle.definitions.specs.Plan.{plan_of}
-use Rattle.definitions.specs.declared.Reply.{Reply}
-use Rattle.definitions.specs.declared.Reply.TheVariants.{Done}
+use Rattle.definitions.specs.Refusals.{Reply}
 use Rattle.pages.proofs.Reading.{size_is}
 use Rattle.pages.proofs.Writing.{length-file}
 use Rattle.readers.specs.Accepted.{RuleIn}
@@ -35,17 +34,22 @@ use Rattle.batches.specs.Replies.{Counted, for_all, for_each, UnderRule, misfit,
 use Rattle.batches.proofs.Budgets.{is_none, all-low}
 use Rattle.batches.proofs.Exactly.{run_exactly}
 use Rattle.tap.specs.Packed.{packed, most_number, Clear, Stands}
+use Rattle.std.specs.Prelude.{Ok}
+use Rattle.definitions.specs.declared.Reason.TheVariants.{FileSize, PageCheck, PageForm, TooLong, NoRoom, Misfit, OverLimit, NotPlan, GotoCycle}
+use Rattle.definitions.specs.Refusals.{number_of, refusal}
+use Rattle.definitions.specs.declared.Reason.{Reason}
+use Rattle.definitions.proofs.Numbered.{number_low}
 
 -- what is to be written, or the place of what is refused, is at most m
 unfoldable pub Within : ℕ → Got (List ℕ) → Type 0
 Within m (got xs n) = length xs ≤ m
-Within m (refused k p) = (1 ≤ k) × ((k ≤ most_number) × (p ≤ m))
+Within m (refused k p) = (1 ≤ number_of k) × ((number_of k ≤ most_number) × (p ≤ m))
 
 pub clear_wrote : {what : Got (List ℕ)} {old : List ℕ} {r : Reply} {new : List ℕ} → Within 8192 what → Wrote what old r new → Clear r
 unfolding Within reply_in Clear
 clear_wrote {what = got xs n} {old = old} h w = rw w.reply (go (ltb (length old) (length xs)))
   where
-    go : (b : Bool) → Clear (cond b (refusal 12 0) (Done (length xs)))
+    go : (b : Bool) → Clear (cond b (refusal NoRoom 0) (Ok (length xs)))
     go true = (omega arith, (omega arith, omega arith))
     go false = omega arith
 clear_wrote {what = refused k p} h w = rw w.reply (h.0, (h.1.0, omega arith))
@@ -61,7 +65,7 @@ page-within : (last : Bool) (file : List ℕ) (k : ℕ) → Within (k + page_siz
 unfolding page_at Within
 page-within last file k = go (eqb (check_in (page_in file k)) (check_of k (page_in file k))) (length_ok last (length_in (page_in file k)) && filler_ok (page_in file k))
   where
-    go : (a b : Bool) → Within (k + page_size) (cond (not a) (refused 2 k) (cond (not b) (refused 3 k) (got (payload_of (page_in file k)) (k + 1))))
+    go : (a b : Bool) → Within (k + page_size) (cond (not a) (refused PageCheck k) (cond (not b) (refused PageForm k) (got (payload_of (page_in file k)) (k + 1))))
     go false b = (omega arith, (omega arith, omega arith))
     go true false = (omega arith, (omega arith, omega arith))
     go true true = simp (length-take, length-drop) (omega arith)
@@ -84,7 +88,7 @@ file-within file = go (size_ok (length file)) refl
     wider m n (got xs a) h l = omega arith
     wider m n (refused i j) h l = (l.0, (l.1.0, omega arith))
 
-    go : (b : Bool) → size_ok (length file) ≡ b → Within 4160 (cond b (payload_to file (length file / page_size) (length file / page_size)) (refused 1 0))
+    go : (b : Bool) → size_ok (length file) ≡ b → Within 4160 (cond b (payload_to file (length file / page_size) (length file / page_size)) (refused FileSize 0))
     go true e =
         let few = size_is (length file) e in
         let k : length file / page_size ≤ most_pages = omega arith in
@@ -101,7 +105,7 @@ unfolding Within Sound rule_of
 of_rule s f short small = go (parsed s) refl (rule-sound s)
   where
     whole : (r : Rule) (n : ℕ) → parsed s ≡ got r n → size r ≤ most_blocks → (b : Bool) → ltb (cycle_of (size r) (goto_in r)) (size r) ≡ b
-        → Within 8192 (then (cond b (refused 16 (cycle_of (size r) (goto_in r))) (got r n)) (λ r n. got (f r) n))
+        → Within 8192 (then (cond b (refused GotoCycle (cycle_of (size r) (goto_in r))) (got r n)) (λ r n. got (f r) n))
     whole r n e l true t = (omega arith, (omega arith, omega (arith, ltb-true (cycle_of (size r) (goto_in r)) (size r) t)))
     whole r n e l false t = small r n (rw (e, t))
 
@@ -126,7 +130,7 @@ pub write_within : (s : List ℕ) → Within 8192 (to_write s)
 unfolding to_write Within
 write_within s = go (ltb longest (length s)) refl
   where
-    go : (b : Bool) → ltb longest (length s) ≡ b → Within 8192 (cond b (refused 11 0) (then (rule_of s) (λ r n. got (file_of s) n)))
+    go : (b : Bool) → ltb longest (length s) ≡ b → Within 8192 (cond b (refused TooLong 0) (then (rule_of s) (λ r n. got (file_of s) n)))
     go true e = (omega arith, (omega arith, omega arith))
     go false e = let h = ltb-false longest (length s) e in of_rule s (λ _. file_of s) (omega arith) (λ r n q. omega (arith, length-file s))
 
@@ -174,9 +178,9 @@ module _ (r : Rule) (q : ℕ) where
 -- ---- the run
 
 -- a refusal of the calls, whose place is a buffer's or a row's
-clear-refused : (k p : ℕ) → 1 ≤ k → k ≤ most_number → p ≤ most_rows → Clear (refusal k p)
+clear-refused : (k : Reason) (p : ℕ) → p ≤ most_rows → Clear (refusal k p)
 unfolding Clear
-clear-refused k p l u h = (l, (u, omega arith))
+clear-refused k p h = let n = number_low k in (n.0, (omega (arith, n.1), omega arith))
 
 -- no more budgets are brought than there may be rows
 few-brought : {rows : ℕ} {bs : Budgets} → Counted rows bs → rows ≤ most_rows → length (brought bs) ≤ most_rows
@@ -188,13 +192,13 @@ unfolding Clear
 clear_run {b = b} {out = out} {work = work} {x = x} {out' = out'} {work' = work'} w = go x ((run_exactly b out work x out' work' w x).0 refl)
   where
     ran : (r : Rule) (q : Reply) → UnderRule b r (length out) (length work) q → Clear q
-    ran r _ (misfit h) = clear-refused 13 0 (omega arith) (omega arith) (omega arith)
-    ran r _ (high f h) = clear-refused 14 0 (omega arith) (omega arith) (omega arith)
-    ran r _ (high_row {n = n} f l o) = clear-refused 14 n (omega arith) (omega arith) (omega (arith, o.there, few-brought f.counted f.few))
-    ran r _ (short_out f l h) = clear-refused 12 0 (omega arith) (omega arith) (omega arith)
-    ran r _ (short_work f l o h) = clear-refused 12 1 (omega arith) (omega arith) (omega arith)
+    ran r _ (misfit h) = clear-refused Misfit 0 (omega arith)
+    ran r _ (high f h) = clear-refused OverLimit 0 (omega arith)
+    ran r _ (high_row {n = n} f l o) = clear-refused OverLimit n (omega (arith, o.there, few-brought f.counted f.few))
+    ran r _ (short_out f l h) = clear-refused NoRoom 0 (omega arith)
+    ran r _ (short_work f l o h) = clear-refused NoRoom 1 (omega arith)
     ran r _ (done f l o h) = omega (arith, most-few r b.quota b.budgets most_budget (all-low b.budgets (is_none (brought b.budgets) l.budgets-low)) b.values b.rows)
 
     go : (q : Reply) → ToRun b (length out) (length work) q → Clear q
-    go _ (no_plan h) = clear-refused 15 0 (omega arith) (omega arith) (omega arith)
+    go _ (no_plan h) = clear-refused NotPlan 0 (omega arith)
     go q (under {r = r} p h) = ran r q h

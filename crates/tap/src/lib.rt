@@ -9,20 +9,20 @@ ghost use Rattle.finder.specs.Place.{place_in};
 ghost use Rattle.tap.specs.Packed.{half, packed, Clear, Stands};
 ghost use Rattle.tap.specs.Place.{first_word, place_word};
 
-use definitions::{Place, Reply};
+use definitions::{Place, Refusal};
 
 // The value of the lowest of the upper 32 bits.
 const HALF: u64 = 4294967296;
 
 // A reply in 64 bits.
-fn pack(r: Reply) -> u64
+fn pack(r: Result<usize, Refusal>) -> u64
     requires { Clear r }
     ensures { result ≡ packed r }
 {
     match r {
-        Reply::Done(n) => n as u64,
-        Reply::Refused(f) => {
-            let number = f.number as u64;
+        Ok(n) => n as u64,
+        Err(f) => {
+            let number = f.reason.number() as u64;
             let place = f.place as u64;
             number * HALF + place
         }

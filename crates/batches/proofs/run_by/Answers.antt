@@ -1,5 +1,6 @@
 -- The plan decides first: 15, or what the run under its rule comes to.
-use mathlib.Core.Path.{◌∙◌}
+use Rattle.std.proofs.Common.{ap, sym, ◌∙◌, Err}
+use Rattle.definitions.proofs.Handed.{handed, ok_or-some, ok_or-none}
 use Prim.Native.Nat.{ℕ}
 use lib.ListN.{length-replicate}
 use Rattle.definitions.specs.Grammar.{longest}
@@ -10,11 +11,12 @@ use Rattle.batches.proofs.run_by.Goals as goal
 
 pub run_plan-requires : goal.run_plan-requires
 run_plan-requires c =
-    let k = c.take-taken in
-    let e = c.in-Rule.is in
+    let k = c.take in
+    let e = ok_or-some _ _ _ (sym c.ok_or.ensures.value ∙ c.in_ok-ok_or.was) in
     record { accepted = accepted k.ensures _ e; bytes = lies k.ensures _ e (k.auto.rule ∙ length-replicate {A = ℕ} longest 0) }
 
-pub returns-in-NotPlan : goal.returns-in-NotPlan
-returns-in-NotPlan c =
-    let no = refused-plan c.take-taken.ensures c.in-NotPlan.is in
-    rw c.refuse.ensures (ran_unplanned _ _ _ no.0 no.1 no.2)
+pub returns-in_err-ok_or : goal.returns-in_err-ok_or
+returns-in_err-ok_or c =
+    let n = ok_or-none _ _ _ (sym c.ok_or.ensures.value ∙ c.in_err-ok_or.was) in
+    let no = refused-plan c.take.ensures n.0 in
+    rw (handed _ _ c.from_residual.ensures ∙ ap Err (n.1 ∙ c.at.ensures)) (ran_unplanned _ _ _ no.0 no.1 no.2)

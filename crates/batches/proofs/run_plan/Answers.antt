@@ -1,5 +1,6 @@
 -- What is read of the plan is the rows' layout; the tests decide whether the rows are run.
-use mathlib.Core.Path.{sym, ◌∙◌}
+use Rattle.std.proofs.Common.{ap, sym, ◌∙◌, Err}
+use Rattle.definitions.proofs.Handed.{handed, ok_or-some, ok_or-none}
 use native.Mathlib.Omega.{arith}
 use Rattle.plans.specs.Accepted.{rule_in}
 use Rattle.plans.proofs.Carried.{at-arguments}
@@ -12,41 +13,41 @@ line_size-size-requires c =
     let w = c.word_at-lc in
     place-few c.requires.accepted w.result c.place.result w.ensures c.place.ensures
 
-pub test-reply-requires : goal.test-reply-requires
-test-reply-requires c =
+pub test-requires : goal.test-requires
+test-requires c =
     let w = c.word_at-lc in
     let q = c.place in
     (arguments-few c.requires.accepted, size_few c.requires.accepted w.result q.result w.ensures q.ensures c.line_size-size.result c.line_size-size.ensures)
 
-pub run_rows-most-requires-clause-running : goal.run_rows-most-requires-clause-running
-run_rows-most-requires-clause-running c =
+pub run_rows-requires-clause-running : goal.run_rows-requires-clause-running
+run_rows-requires-clause-running c =
     let w = c.word_at-lc in
     let q = c.place in
-    let al = tested_allowed _ c.args.e c.args.budgets.now _ _ _ _ (sym c.test-reply.ensures ∙ c.in-Done.is) in
+    let al = tested_allowed _ c.args.e c.args.budgets.now _ _ _ (sym c.test.ensures ∙ c.in_ok-test.was) in
     (c.requires, known c.requires.accepted w.result q.result w.ensures q.ensures c.line_size-size.result c.line_size-size.ensures c.args.quota al.quota-low)
 
-pub run_rows-most-requires-clause-allowed : goal.run_rows-most-requires-clause-allowed
-run_rows-most-requires-clause-allowed c =
+pub run_rows-requires-clause-allowed : goal.run_rows-requires-clause-allowed
+run_rows-requires-clause-allowed c =
     let w = c.word_at-lc in
     let q = c.place in
-    let al = tested_allowed _ c.args.e c.args.budgets.now _ _ _ _ (sym c.test-reply.ensures ∙ c.in-Done.is) in
+    let al = tested_allowed _ c.args.e c.args.budgets.now _ _ _ (sym c.test.ensures ∙ c.in_ok-test.was) in
     al
 
-pub returns-in-Refused : goal.returns-in-Refused
-returns-in-Refused c =
+pub returns-in_err-test : goal.returns-in_err-test
+returns-in_err-test c =
     let p = c.args.plan.now in
     let ok = c.requires.accepted in
     let w = c.word_at-lc in
     let q = c.place in
-    ran-refused p c.args.e c.args.values.now c.args.budgets.now c.args.quota c.args.out.now c.args.work.now (rule_in p) ok.next ok.is _ _ _ _ (at-arguments p ok) (size_is ok w.result q.result w.ensures q.ensures c.line_size-size.result c.line_size-size.ensures) _ (sym c.test-reply.ensures ∙ c.in-Refused.is)
+    rw (handed _ _ c.from_residual.ensures) (ran-refused p c.args.e c.args.values.now c.args.budgets.now c.args.quota c.args.out.now c.args.work.now (rule_in p) ok.next ok.is _ _ _ _ (at-arguments p ok) (size_is ok w.result q.result w.ensures q.ensures c.line_size-size.result c.line_size-size.ensures) _ (sym c.test.ensures ∙ c.in_err-test.was))
 
-pub returns-in-Done : goal.returns-in-Done
-returns-in-Done c =
+pub returns : goal.returns
+returns c =
     let p = c.args.plan.now in
     let ok = c.requires.accepted in
     let w = c.word_at-lc in
     let q = c.place in
-    ran-done p c.args.e c.args.values.now c.args.budgets.now c.args.quota c.args.out.now c.args.work.now (rule_in p) ok.next ok.is _ _ _ _ (at-arguments p ok) (size_is ok w.result q.result w.ensures q.ensures c.line_size-size.result c.line_size-size.ensures) _ (sym c.test-reply.ensures ∙ c.in-Done.is) c.run_rows-most.result _ _ c.run_rows-most.ensures
+    ran-done p c.args.e c.args.values.now c.args.budgets.now c.args.quota c.args.out.now c.args.work.now (rule_in p) ok.next ok.is _ _ _ _ (at-arguments p ok) (size_is ok w.result q.result w.ensures q.ensures c.line_size-size.result c.line_size-size.ensures) (sym c.test.ensures ∙ c.in_ok-test.was) c.run_rows.result _ _ c.run_rows.ensures
 
 pub bounds-plan-1 : goal.bounds-plan-1
 bounds-plan-1 c = omega (arith, plan-long c.requires.accepted)

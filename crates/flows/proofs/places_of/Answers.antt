@@ -14,11 +14,11 @@ pub loop-b-init : goal.loop-b-init
 unfolding read_of blocks_to
 loop-b-init c = (refl, written-set _ _ _ 0 (replicate 65 0) _ (omega arith) (written_none _ _ _ _ refl) refl)
 
-pub returns-in-Refused : goal.returns-in-Refused
+pub returns-in-Err : goal.returns-in-Err
 unfolding read_of
-returns-in-Refused c = λ bs m e b h.
+returns-in-Err c = λ bs m e b h.
     let a = c.args in
-    let r = told c.read_block.ensures c.in-Refused.is in
+    let r = told c.read_block.ensures c.in-Err.is in
     let i = c.loop-b in
     let f = blocks-refused a.n a.v a.s.now i.b _ _ (omega arith) i.invariant.0 (rw (i.invariant.1.below i.b (omega arith)) at r) in
     let q = sym f ∙ ap read_of e in
@@ -28,7 +28,7 @@ returns-in-Refused c = λ bs m e b h.
 pub loop-b-preserved : goal.loop-b-preserved
 loop-b-preserved c =
     let a = c.args in
-    let r = told c.read_block.ensures c.in-Next.is in
+    let r = told c.read_block.ensures c.in-Ok.is in
     let i = c.loop-b in
     let f = blocks-next a.n a.v a.s.now i.b _ _ i.invariant.0 (rw (i.invariant.1.below i.b (omega arith)) at r) in
     let g = next_place _ _ f in

@@ -1,5 +1,5 @@
 -- `pages::scan` meets its contract: a wrong size is refused, and otherwise the pages decide.
-use Rattle.std.proofs.Common.{sym, ap, ◌∙◌}
+use Rattle.std.proofs.Common.{sym, ap, ◌∙◌, Err}
 use Rattle.pages.specs.Answers.{scan_of}
 use Rattle.pages.proofs.Reading.{whole, wrong_size}
 use Rattle.pages.proofs.scan.Goals as goal
@@ -13,4 +13,4 @@ pub returns-else-size_ok : goal.returns-else-size_ok
 unfolding scan_of
 returns-else-size_ok c =
     let file = c.args.file.now in
-    c.refuse.ensures ∙ ap scan_of (sym (wrong_size file (sym c.size_ok.ensures ∙ c.if-size_ok.false)))
+    ap Err c.at.ensures ∙ ap scan_of (sym (wrong_size file (sym c.size_ok.ensures ∙ c.if-size_ok.false)))

@@ -6,27 +6,27 @@ use Rattle.readers.proofs.read_header.Goals as goal
 
 pub returns-then-s-lt4 : goal.returns-then-s-lt4
 unfolding headed read_of
-returns-then-s-lt4 c = simp (c.misread.ensures, lt-ltb _ _ c.if-s-lt4.true)
+returns-then-s-lt4 c = simp (c.at.ensures, lt-ltb _ _ c.if-s-lt4.true)
 
 pub returns-then-s-ne1 : goal.returns-then-s-ne1
 unfolding headed read_of
 returns-then-s-ne1 c =
-    simp (c.misread-then-s-ne1.ensures, le-ltb _ _ c.if-s-lt4.false, ne_eqb _ _ c.if-s-ne1.true)
+    simp (c.at-then-s-ne1.ensures, le-ltb _ _ c.if-s-lt4.false, ne_eqb _ _ c.if-s-ne1.true)
 
 pub returns-then-not-within : goal.returns-then-not-within
 unfolding headed read_of
 returns-then-not-within c =
-    simp (c.misread-then-not-within.ensures, le-ltb _ _ c.if-s-lt4.false, eq-eqb _ _ c.if-s-ne1.false, told c.within.ensures c.if-not-within.true)
+    simp (c.at-then-not-within.ensures, le-ltb _ _ c.if-s-lt4.false, eq-eqb _ _ c.if-s-ne1.false, told c.within.ensures c.if-not-within.true)
 
 pub returns-then-s : goal.returns-then-s
 unfolding headed read_of
 returns-then-s c =
-    simp (c.misread-then-s.ensures, le-ltb _ _ c.if-s-lt4.false, eq-eqb _ _ c.if-s-ne1.false, told c.within.ensures c.if-not-within.false, lt-leb _ _ c.if-s.true)
+    simp (c.at-then-s.ensures, le-ltb _ _ c.if-s-lt4.false, eq-eqb _ _ c.if-s-ne1.false, told c.within.ensures c.if-not-within.false, lt-leb _ _ c.if-s.true)
 
 pub returns-then-not-within-2 : goal.returns-then-not-within-2
 unfolding headed read_of
 returns-then-not-within-2 c =
-    simp (c.misread-then-not-within-2.ensures, le-ltb _ _ c.if-s-lt4.false, eq-eqb _ _ c.if-s-ne1.false, told c.within.ensures c.if-not-within.false, le-leb _ _ c.if-s.false, told c.within-2.ensures c.if-not-within-2.true)
+    simp (c.at-then-not-within-2.ensures, le-ltb _ _ c.if-s-lt4.false, eq-eqb _ _ c.if-s-ne1.false, told c.within.ensures c.if-not-within.false, le-leb _ _ c.if-s.false, told c.within-2.ensures c.if-not-within-2.true)
 
 pub returns : goal.returns
 unfolding headed read_of

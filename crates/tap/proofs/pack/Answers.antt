@@ -5,12 +5,12 @@ use Rattle.tap.proofs.pack.Goals as goal
 
 pub overflow_add-result : goal.overflow_add-result
 overflow_add-result c =
-    let h = pack_room c.args.r c.in-Refused.f c.in-Refused.is c.requires in
-    omega arith
+    let h = pack_room c.args.r c.in-Err.f c.in-Err.is c.requires in
+    omega (arith, c.number-number.ensures)
 
-pub returns-in-Done : goal.returns-in-Done
-returns-in-Done c = pack_done c.args.r c.in-Done.n c.in-Done.is
+pub returns-in-Ok : goal.returns-in-Ok
+returns-in-Ok c = pack_done c.args.r c.in-Ok.n c.in-Ok.is
 
-pub returns-in-Refused : goal.returns-in-Refused
-returns-in-Refused c =
-    pack_refused c.args.r c.in-Refused.f c.in-Refused.is
+pub returns-in-Err : goal.returns-in-Err
+returns-in-Err c =
+    rw c.number-number.ensures (pack_refused c.args.r c.in-Err.f c.in-Err.is)

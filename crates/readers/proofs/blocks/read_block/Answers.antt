@@ -1,7 +1,8 @@
 -- `readers::blocks::read_block` meets its contract. The loop's invariant: the answer is that of the block from `next` on.
 -- The measure is what is left of the bytes, of which each statement takes some.
-use mathlib.Core.Path.{sym, ◌∙◌}
 use native.Mathlib.Omega.{arith}
+use Rattle.std.proofs.Common.{sym, ◌∙◌}
+use Rattle.definitions.proofs.Handed.{handed}
 use Rattle.readers.proofs.Laws.{told}
 use Rattle.readers.proofs.Sound.{sound-next}
 use Rattle.readers.proofs.Accepted.{stmt_sound}
@@ -9,13 +10,13 @@ use Rattle.readers.proofs.BlockLaws.{block_goes, block_refused, block-done}
 use Rattle.readers.proofs.blocks.read_block.Goals as goal
 
 pub loop-next-smaller : goal.loop-next-smaller
-loop-next-smaller c = omega (arith, sound-next _ _ _ _ (stmt_sound c.args.v c.args.s.now c.loop-next.next) _ (told c.read_stmt.ensures c.in-Next.is))
+loop-next-smaller c = omega (arith, sound-next _ _ _ _ (stmt_sound c.args.v c.args.s.now c.loop-next.next) _ (told c.read_stmt.ensures c.in_ok-next.was))
 
 pub loop-next-preserved : goal.loop-next-preserved
-loop-next-preserved c = c.loop-next.invariant ∙ block_goes _ _ _ _ _ (told c.begins_stmt.ensures c.loop-next-test.true) (told c.read_stmt.ensures c.in-Next.is)
+loop-next-preserved c = c.loop-next.invariant ∙ block_goes _ _ _ _ _ (told c.begins_stmt.ensures c.loop-next-test.true) (told c.read_stmt.ensures c.in_ok-next.was)
 
-pub returns-in-Refused : goal.returns-in-Refused
-returns-in-Refused c = sym (c.loop-next.invariant ∙ block_refused _ _ _ _ _ (told c.begins_stmt.ensures c.loop-next-test.true) (told c.read_stmt.ensures c.in-Refused.is))
+pub returns-in_err-next : goal.returns-in_err-next
+returns-in_err-next c = handed _ _ c.from_residual.ensures ∙ sym (c.loop-next.invariant ∙ block_refused _ _ _ _ _ (told c.begins_stmt.ensures c.loop-next-test.true) (told c.read_stmt.ensures c.in_err-next.was))
 
 pub returns : goal.returns
 returns c = c.read_end.ensures ∙ sym (c.loop-next.invariant ∙ block-done _ _ _ _ (told c.begins_stmt.ensures c.loop-next-test.false))

@@ -23,8 +23,8 @@ pub returns-then-s-lt4 : goal.returns-then-s-lt4
 unfolding read_of
 returns-then-s-lt4 c =
     elim c.then-s-lt4.branch [
-      | then-s-lt4-via-then-s-lt4 w ↦ simp (c.misread.ensures, tiny c.args.at _ w.if-s-lt4.true)
-      | then-s-lt4-via-else-s-lt4+then-s-at w ↦ simp (c.misread.ensures, short _ _ w.if-s-lt4.false w.if-s-at.true)
+      | then-s-lt4-via-then-s-lt4 w ↦ simp (c.at.ensures, tiny c.args.at _ w.if-s-lt4.true)
+      | then-s-lt4-via-else-s-lt4+then-s-at w ↦ simp (c.at.ensures, short _ _ w.if-s-lt4.false w.if-s-at.true)
     ]
 
 pub returns : goal.returns
