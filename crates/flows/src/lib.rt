@@ -114,10 +114,10 @@ fn places_of(s: &[u8], n: u8, v: u8) -> Places
     let mut out = [0usize; BLOCKS + 1];
     out[0] = 4;
     for b in 0..n as usize {
-        match read_block(s, out[b], v, n) {
-            Ok(next) => out[b + 1] = next,
-            Err(_) => return out,
-        }
+        let Ok(next) = read_block(s, out[b], v, n) else {
+            return out;
+        };
+        out[b + 1] = next;
     }
     out
 }

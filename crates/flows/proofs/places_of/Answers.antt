@@ -14,11 +14,11 @@ pub loop-b-init : goal.loop-b-init
 unfolding read_of blocks_to
 loop-b-init c = (refl, written-set _ _ _ 0 (replicate 65 0) _ (omega arith) (written_none _ _ _ _ refl) refl)
 
-pub returns-in-Err : goal.returns-in-Err
+pub returns-in_default : goal.returns-in_default
 unfolding read_of
-returns-in-Err c = λ bs m e b h.
+returns-in_default c = λ bs m e b h.
     let a = c.args in
-    let r = told c.read_block.ensures c.in-Err.is in
+    let r = told c.read_block.ensures c.in_default.is in
     let i = c.loop-b in
     let f = blocks-refused a.n a.v a.s.now i.b _ _ (omega arith) i.invariant.0 (rw (i.invariant.1.below i.b (omega arith)) at r) in
     let q = sym f ∙ ap read_of e in
