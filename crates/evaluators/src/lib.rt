@@ -105,6 +105,7 @@ fn eval_operand(s: &Rule, at: usize, v: u8, left: u8, vars: &Vars) -> Result<(i3
 
 // The values of two expressions, one after the other.
 #[cycle(evaluators)]
+#[inline(always)]
 fn eval_two(s: &Rule, at: usize, v: u8, left: u8, vars: &Vars) -> Result<(i32, i32, usize), Flaw>
     requires { Sized v s.now × Readable (pairs (expr_at left v s.now) at) }
     ensures { result ≡ answers (pairs (expr_at left v s.now) at) at vars.now }
