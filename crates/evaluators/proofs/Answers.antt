@@ -25,8 +25,8 @@ use Rattle.evaluators.specs.Answer.{Readable, placed, value_at, verdict_at, both
 pub told : {A : Type 0} {x y z : A} → x ≡ y → x ≡ z → y ≡ z
 told p q = sym p ∙ q
 
--- what a `?` returns for a fault is that fault
-pub passed : {A : Type 0} (r : Result A Flaw) (k : Flaw) → IsErrAnd r (λ y. y ≡ k) → r ≡ Err k
+-- what a `?` hands up is the error that it met
+pub passed : {A E : Type 0} (r : Result A E) (k : E) → IsErrAnd r (λ y. y ≡ k) → r ≡ Err k
 passed r k h =
     let p = err_from_is_err_and r h in
     p.1 ∙ ap Err p.2

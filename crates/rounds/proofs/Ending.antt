@@ -17,7 +17,7 @@ use Rattle.definitions.specs.declared.Flaw.{Flaw}
 use Rattle.evaluators.specs.Skip.{past}
 use Rattle.evaluators.specs.Answer.{Readable, holding}
 use Rattle.rounds.specs.Run.{EndHere, leading_of}
-use Rattle.std.specs.Prelude.{Ok, Err}
+use Rattle.std.specs.Prelude.{Result, Ok, Err}
 use Rattle.rounds.specs.declared.blocks.Leading.{Leading}
 use Rattle.evaluators.proofs.Tags.{end-bad}
 use Rattle.evaluators.proofs.Reading.{no_got, then-got, one-got, two-got, byte-got, target_got}
@@ -67,15 +67,15 @@ module _ (left v : ℕ) (s : List ℕ) (at : ℕ) (h : EndHere left v s at) wher
   pub jump_there : get_or s at 0 ≡ 0x31 → at + 1 < length s
   jump_there e = (end_jump e).0
 
-  pub goto-answer : (env : List Word) → get_or s at 0 ≡ 0x30 → Leading.Goto (get_or s (at + 1) 0) ≡ leading_of (exit h.ending (at_byte at) (values_in env))
+  pub goto-answer : (env : List Word) → get_or s at 0 ≡ 0x30 → Ok (Leading.Goto (get_or s (at + 1) 0)) ≡ leading_of (exit h.ending (at_byte at) (values_in env))
   unfolding exit
   goto-answer env e = rw (end-goto e).1
 
-  pub jump_answer : (env : List Word) → get_or s at 0 ≡ 0x31 → Leading.Jump (get_or s (at + 1) 0) ≡ leading_of (exit h.ending (at_byte at) (values_in env))
+  pub jump_answer : (env : List Word) → get_or s at 0 ≡ 0x31 → Ok (Leading.Jump (get_or s (at + 1) 0)) ≡ leading_of (exit h.ending (at_byte at) (values_in env))
   unfolding exit
   jump_answer env e = rw (end_jump e).1
 
-  pub stop_answer : (env : List Word) → get_or s at 0 ≡ 0x32 → Leading.Stop ≡ leading_of (exit h.ending (at_byte at) (values_in env))
+  pub stop_answer : (env : List Word) → get_or s at 0 ≡ 0x32 → Ok Leading.Stop ≡ leading_of (exit h.ending (at_byte at) (values_in env))
   unfolding exit
   stop_answer env e = let w = end_as 0x32 e in let q : h.ending ≡ Stop = cc in rw q
 
@@ -113,7 +113,7 @@ module _ (left v : ℕ) (s : List ℕ) (at : ℕ) (h : EndHere left v s at) wher
     pub if-stands : Readable (cond_at depth v s (at + 1))
     if-stands = is-got (cond_at depth v s (at + 1)) parts.test parts.m parts.test-reads
 
-    pub if-fault : (env : List Word) (f : Flaw) → holding (cond_at depth v s (at + 1)) (at + 1) env ≡ Err f → Leading.Fault f ≡ leading_of (exit h.ending (at_byte at) (values_in env))
+    pub if-fault : (env : List Word) (f : Flaw) → holding (cond_at depth v s (at + 1)) (at + 1) env ≡ Err f → Err f ≡ leading_of (exit h.ending (at_byte at) (values_in env))
     unfolding exit
     if-fault env f e =
         let w = held_fault_is env (at + 1) (cond_at depth v s (at + 1)) f if-stands e in
@@ -152,10 +152,10 @@ module _ (left v : ℕ) (s : List ℕ) (at : ℕ) (h : EndHere left v s at) wher
           let p = past_one s (λ m. end_at (left - 1) h.targets v s m) (end-past (left - 1) h.targets v s) n parts.first parts.k if-first.reads in
           omega (arith, p, first-at, end-size (left - 1) h.targets v s n parts.first parts.k if-first.reads)
 
-      pub if-true : (r : Leading) → b ≡ true → ((g : EndHere (left - 1) v s n) → r ≡ leading_of (exit g.ending (at_byte n) (values_in env))) → r ≡ leading_of (exit h.ending (at_byte at) (values_in env))
+      pub if-true : (r : Result Leading Flaw) → b ≡ true → ((g : EndHere (left - 1) v s n) → r ≡ leading_of (exit g.ending (at_byte n) (values_in env))) → r ≡ leading_of (exit h.ending (at_byte at) (values_in env))
       unfolding exit if-first
       if-true r t q = rw (parts.is, held.1, t, first-at) (q if-first)
 
-      pub if-false : (r : Leading) → b ≡ false → ((g : EndHere (left - 1) v s (past 1 s n)) → r ≡ leading_of (exit g.ending (at_byte (past 1 s n)) (values_in env))) → r ≡ leading_of (exit h.ending (at_byte at) (values_in env))
+      pub if-false : (r : Result Leading Flaw) → b ≡ false → ((g : EndHere (left - 1) v s (past 1 s n)) → r ≡ leading_of (exit g.ending (at_byte (past 1 s n)) (values_in env))) → r ≡ leading_of (exit h.ending (at_byte at) (values_in env))
       unfolding exit if-second
       if-false r t q = rw (parts.is, held.1, t, second_at) (q if-second)

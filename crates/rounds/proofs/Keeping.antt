@@ -1,7 +1,6 @@
--- Variables are kept by the bits of a mask, walked by halving it. Assumes nothing.
+-- Variables are kept by the bits of a mask. Assumes nothing.
 use Prim.Native.Nat.{ℕ, zero, suc, ◌+◌, ◌/◌, ◌%◌, ◌^◌, ◌<◌}
 use native.Mathlib.Numerals.{add-one}
-use native.Mathlib.Nat.{pow-suc, div-div-eq-div-mul}
 use native.Mathlib.Omega.{arith}
 use mathlib.Core.Path.{◌≡◌, refl, ◌∙◌}
 use mathlib.Core.Bool.{Bool}
@@ -12,10 +11,6 @@ use Rattle.definitions.specs.Values.{Word, Val, values_in, unset}
 use Rattle.definitions.specs.Plan.{bit_of}
 use Rattle.definitions.proofs.Values.{values-set}
 use Rattle.columns.specs.OnPlan.{kept}
-
--- the next bit
-pub halved : (mask k : ℕ) → mask / 2 ^ k / 2 ≡ mask / 2 ^ (k + 1)
-halved mask k = rw (add-one, pow-suc) (div-div-eq-div-mul mask (2 ^ k) 2)
 
 module _ (mask k : ℕ) (env : List Val) where
   kept_out : mask / 2 ^ k % 2 ≡ 0 → set (kept k (bit_of mask) env) k unset ≡ kept (k + 1) (bit_of mask) env

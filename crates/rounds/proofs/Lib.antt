@@ -1,5 +1,6 @@
 pub mod Ending
 pub mod Stepping
+pub mod Handing
 pub mod Keeping
 pub mod Passing
 pub mod Longer

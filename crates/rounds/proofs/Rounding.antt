@@ -24,9 +24,10 @@ use Rattle.columns.proofs.Endings.{Named, exit_named}
 use Rattle.columns.proofs.Keeping.{KeptWay, steps-kept, leave-kept}
 use Rattle.plans.specs.Accepted.{rule_in, Accepted}
 use Rattle.plans.proofs.Carried.{carried-rule, at-variables, at-blocks, at-past, at_offset, at-inputs, at-outputs, at_place}
-use Rattle.rounds.specs.declared.blocks.Passage.{Passage}
+use Rattle.std.specs.Prelude.{Ok}
+use Rattle.rounds.specs.declared.blocks.Leading.{Leading}
 use Rattle.rounds.specs.declared.blocks.Entry.{Entry}
-use Rattle.rounds.specs.Run.{Prefix, BlockHere, labels_in, round_of, labels_of, left_by, BlockRun}
+use Rattle.rounds.specs.Run.{Prefix, BlockHere, labels_in, Passage, round_of, left_by, BlockRun}
 use Rattle.rounds.specs.Round.{Entered, ended_as, jump_to, Walked, Going}
 use Rattle.rounds.proofs.Keeping.{kept_same}
 use Rattle.rounds.proofs.Placing.{place_is}
@@ -75,9 +76,9 @@ module _ (p : List ℕ) (a : Accepted p) where
 
     -- ---- a block that was run, in the words of the walk
     module _ {v' : ℕ} {s : List ℕ} (ev : v' ≡ get_or p 1 0) (es : Prefix (carried p) s) {e : Entry} (said : Entered p b e)
-        {q count : ℕ} {vars labels : List Word} {w : Passage} {vars' labels' : List Word}
-        (passed : (x : BlockHere v' s e.place) → BlockRun v' s e x q count vars labels w vars' labels') where
-      ran : BlockRun v' s e (here v' s e.place ev es said.place') q count vars labels w vars' labels'
+        {q count : ℕ} {vars labels : List Word} {w : Passage} {k : ℕ} {vars' labels' : List Word}
+        (passed : (x : BlockHere v' s e.place) → BlockRun v' s e x q count vars labels w k vars' labels') where
+      ran : BlockRun v' s e (here v' s e.place ev es said.place') q count vars labels w k vars' labels'
       ran = passed (here v' s e.place ev es said.place')
 
       abbrev way : Way
@@ -91,7 +92,7 @@ module _ (p : List ℕ) (a : Accepted p) where
       left_is (on env ls) W = rw (ev ∙ at-variables p a, said.outputs', masked (outputs_of (flow_of r) b) env)
       left_is (ended how ls) W = refl
 
-      pub next-round : (W : ℕ → List Val → List Val → Round) → round_of w vars' labels' W ≡ leaving r b way (block_of r b).ending W
+      pub next-round : (W : ℕ → List Val → List Val → Round) → round_of w k vars' labels' W ≡ leaving r b way (block_of r b).ending W
       next-round W =
           ran.round W
           ∙ ap (λ k. left_by v' (bit_of e.outputs) (steps q (block_of r b).body (at_byte k) (kept v' (bit_of e.inputs) (values_in vars)) (labels_in count labels)) (block_of r b).ending (at_byte (k + body_size (block_of r b))) W) stands
@@ -99,15 +100,15 @@ module _ (p : List ℕ) (a : Accepted p) where
           (rw (ev ∙ at-variables p a, said.inputs') (masked (inputs_of (flow_of r) b) (values_in vars)))
           ∙ left_is way W
 
-      pub labels-within : labels_of w ≤ q
+      pub labels-within : k ≤ q
       labels-within = ran.within
 
       -- a goto leads to a block that is there
-      pub goto-below : (ok : Proper r) (t k : ℕ) → w ≡ Passage.Goto t k → t < size r
-      goto-below ok t k g = go way refl
+      pub goto-below : (ok : Proper r) (t : ℕ) → w ≡ Ok (Leading.Goto t) → t < size r
+      goto-below ok t g = go way refl
         where
           goes : (W : ℕ → List Val → List Val → Round) → W t (values_in vars') (labels_in k labels') ≡ leaving r b way (block_of r b).ending W
-          goes W = sym (ap (λ x. round_of x vars' labels' W) g) ∙ next-round W
+          goes W = sym (ap (λ x. round_of x k vars' labels' W) g) ∙ next-round W
 
           exits : (env ls : List Val) (o : Out Flaw Exit) → Named (block_of r b).ending o → ((W : ℕ → List Val → List Val → Round) → W t (values_in vars') (labels_in k labels') ≡ leave o (handed r b env) ls (λ u. W u (handed r b env) ls)) → t < size r
           exits env ls (value (to_block u)) n f =
@@ -123,8 +124,8 @@ module _ (p : List ℕ) (a : Accepted p) where
           go (ended how ls) i = let e = goes (λ x _ _. jumped x [] []) ∙ ap (λ o. leaving r b o (block_of r b).ending (λ x _ _. jumped x [] [])) i in let z : ◌≡◌ {A = ℕ} 0 1 = cc in absurd (omega arith)
 
       -- a row that has ended does not go on
-      pub ends : (how : Finish) (k : ℕ) → w ≡ Passage.Ended how k → 0 < how.status
-      ends how k g = go way (steps-kept q (λ _. Unit {0}) (λ _. Unit {0}) (λ _. Unit {0}) (λ _ _ _ _ _ _ _ _. tt) (λ _ _ _ _ _ _ _ _ _ _. tt) (block_of r b).body (body_at origin r b) (entered r b (values_in vars)) (labels_in count labels) (λ _ _. tt) tt tt) refl
+      pub ends : (how : Finish) → ((W : ℕ → List Val → List Val → Round) → round_of w k vars' labels' W ≡ finished how (labels_in k labels')) → 0 < how.status
+      ends how g = go way (steps-kept q (λ _. Unit {0}) (λ _. Unit {0}) (λ _. Unit {0}) (λ _ _ _ _ _ _ _ _. tt) (λ _ _ _ _ _ _ _ _ _ _. tt) (block_of r b).body (body_at origin r b) (entered r b (values_in vars)) (labels_in count labels) (λ _ _. tt) tt tt) refl
         where
           W : ℕ → List Val → List Val → Round
           W x env ls = jumped x env ls
@@ -133,33 +134,33 @@ module _ (p : List ℕ) (a : Accepted p) where
           go (on env ls) kept i =
               let l = leave-kept q (λ _. Unit {0}) (λ _. Unit {0}) (λ _. Unit {0}) (λ _ _ _ _ _ _ _ _. tt) (λ _ _ _ _ _ _ _ _ _ _. tt) (exit (block_of r b).ending (ending_at origin r b) env) (handed r b env) ls (λ u. W u (handed r b env) ls) tt tt (λ u. (tt, tt)) in
               let e : finished how (labels_in k labels') ≡ leave (exit (block_of r b).ending (ending_at origin r b) env) (handed r b env) ls (λ u. W u (handed r b env) ls) =
-              sym (ap (λ x. round_of x vars' labels' W) g) ∙ next-round W ∙ ap (λ o. leaving r b o (block_of r b).ending W) i in
+              sym (g W) ∙ next-round W ∙ ap (λ o. leaving r b o (block_of r b).ending W) i in
               (rw (← e) at l).0.0
           go (ended such ls) kept i =
-              let e : finished how (labels_in k labels') ≡ finished such ls = sym (ap (λ x. round_of x vars' labels' W) g) ∙ next-round W ∙ ap (λ o. leaving r b o (block_of r b).ending W) i in
+              let e : finished how (labels_in k labels') ≡ finished such ls = sym (g W) ∙ next-round W ∙ ap (λ o. leaving r b o (block_of r b).ending W) i in
               let same : such ≡ how = cc in
               rw same at kept.0.0
 
       -- ---- one step of the walk
-      pub goto-step : (f t k : ℕ) → w ≡ Passage.Goto t k → plan_walk (suc f) r q b (values_in vars) (labels_in count labels) ≡ plan_walk f r q t (values_in vars') (labels_in k labels')
+      pub goto-step : (f t : ℕ) → w ≡ Ok (Leading.Goto t) → plan_walk (suc f) r q b (values_in vars) (labels_in count labels) ≡ plan_walk f r q t (values_in vars') (labels_in k labels')
       unfolding plan_walk
-      goto-step f t k g = sym (next-round (λ t env ls. plan_walk f r q t env ls)) ∙ ap (λ x. round_of x vars' labels' (λ t env ls. plan_walk f r q t env ls)) g
+      goto-step f t g = sym (next-round (λ t env ls. plan_walk f r q t env ls)) ∙ ap (λ x. round_of x k vars' labels' (λ t env ls. plan_walk f r q t env ls)) g
 
-      pub jump-step : (f t k : ℕ) → w ≡ Passage.Jump t k → plan_walk (suc f) r q b (values_in vars) (labels_in count labels) ≡ ended_as unfinished t (labels_in k labels') (values_in vars')
+      pub jump-step : (f t : ℕ) → w ≡ Ok (Leading.Jump t) → plan_walk (suc f) r q b (values_in vars) (labels_in count labels) ≡ ended_as unfinished t (labels_in k labels') (values_in vars')
       unfolding plan_walk ended_as
-      jump-step f t k g = sym (next-round (λ t env ls. plan_walk f r q t env ls)) ∙ ap (λ x. round_of x vars' labels' (λ t env ls. plan_walk f r q t env ls)) g
+      jump-step f t g = sym (next-round (λ t env ls. plan_walk f r q t env ls)) ∙ ap (λ x. round_of x k vars' labels' (λ t env ls. plan_walk f r q t env ls)) g
 
-      pub end_step : (f x : ℕ) (how : Finish) (k : ℕ) → w ≡ Passage.Ended how k → plan_walk (suc f) r q b (values_in vars) (labels_in count labels) ≡ ended_as how x (labels_in k labels') (values_in vars')
+      pub end_step : (f x : ℕ) (how : Finish) → ((W : ℕ → List Val → List Val → Round) → round_of w k vars' labels' W ≡ finished how (labels_in k labels')) → plan_walk (suc f) r q b (values_in vars) (labels_in count labels) ≡ ended_as how x (labels_in k labels') (values_in vars')
       unfolding plan_walk ended_as
-      end_step f x how k g =
-          sym (next-round (λ t env ls. plan_walk f r q t env ls)) ∙ ap (λ y. round_of y vars' labels' (λ t env ls. plan_walk f r q t env ls)) g
-          ∙ rw (ne_eqb how.status 0 (λ e. let l = ends how k g in omega arith))
+      end_step f x how g =
+          sym (next-round (λ t env ls. plan_walk f r q t env ls)) ∙ g (λ t env ls. plan_walk f r q t env ls)
+          ∙ rw (ne_eqb how.status 0 (λ e. let l = ends how g in omega arith))
 
 -- ---- the loop of a round
 module _ {p : List ℕ} {q block count : ℕ} {vars₀ labels₀ : List Word} where
   -- before the first block
-  pub started : Accepted p → block < size (rule_in p) → count ≤ q → Going p q block count vars₀ labels₀ (get_or p 3 0) block count vars₀ labels₀
-  started a h l = record { below = h; few = l; walk' = ap (λ f. plan_walk f (rule_in p) q block (values_in vars₀) (labels_in count labels₀)) (at-blocks p a) }
+  pub started : Accepted p → block < size (rule_in p) → count ≤ q → (left : ℕ) → left ≡ get_or p 3 0 → Going p q block count vars₀ labels₀ left block count vars₀ labels₀
+  started a h l left e = record { below = h; few = l; walk' = ap (λ f. plan_walk f (rule_in p) q block (values_in vars₀) (labels_in count labels₀)) (e ∙ at-blocks p a) }
 
   -- nothing is left of the bound: the walk's own answer there
   pub spent : {left b n : ℕ} {vars labels : List Word} → Going p q block count vars₀ labels₀ left b n vars labels → left ≡ 0
@@ -168,23 +169,23 @@ module _ {p : List ℕ} {q block count : ℕ} {vars₀ labels₀ : List Word} wh
   spent g e = record { round = rw e at g.walk'; unended = λ _. refl; within = g.few }
 
   module _ (a : Accepted p) {left b n : ℕ} {vars labels : List Word} (g : Going p q block count vars₀ labels₀ left b n vars labels) (some : 0 < left)
-      {v' : ℕ} {s : List ℕ} (ev : v' ≡ get_or p 1 0) (es : Prefix (carried p) s) {e : Entry} (said : Entered p b e) {w : Passage} {vars' labels' : List Word}
-      (passed : (x : BlockHere v' s e.place) → BlockRun v' s e x q n vars labels w vars' labels') where
+      {v' : ℕ} {s : List ℕ} (ev : v' ≡ get_or p 1 0) (es : Prefix (carried p) s) {e : Entry} (said : Entered p b e) {w : Passage} {k : ℕ} {vars' labels' : List Word}
+      (passed : (x : BlockHere v' s e.place) → BlockRun v' s e x q n vars labels w k vars' labels') where
     more : plan_walk (suc (left - 1)) (rule_in p) q b (values_in vars) (labels_in n labels) ≡ plan_walk (size (rule_in p)) (rule_in p) q block (values_in vars₀) (labels_in count labels₀)
     more = let l : suc (left - 1) ≡ left = omega arith in ap (λ f. plan_walk f (rule_in p) q b (values_in vars) (labels_in n labels)) l ∙ g.walk'
 
-    fits : labels_of w ≤ q
+    fits : k ≤ q
     fits = labels-within p a b g.below ev es said passed
 
-    pub walked_end : (how : Finish) (k : ℕ) → w ≡ Passage.Ended how k → Walked p q block count vars₀ labels₀ (record { finish = how; block = b; count = k }) vars' labels'
-    walked_end how k i = record { round = sym (end_step p a b g.below ev es said passed (left - 1) b how k i) ∙ more; unended = λ z. absurd (omega (arith, eqb-true how.status 0 z, ends p a b g.below ev es said passed how k i)); within = rw (ap labels_of i) at fits }
+    pub walked_end : (how : Finish) → ((W : ℕ → List Val → List Val → Round) → round_of w k vars' labels' W ≡ finished how (labels_in k labels')) → Walked p q block count vars₀ labels₀ (record { finish = how; block = b; count = k }) vars' labels'
+    walked_end how i = record { round = sym (end_step p a b g.below ev es said passed (left - 1) b how i) ∙ more; unended = λ z. absurd (omega (arith, eqb-true how.status 0 z, ends p a b g.below ev es said passed how i)); within = fits }
 
-    pub walked-jump : (t k : ℕ) → w ≡ Passage.Jump t k → Walked p q block count vars₀ labels₀ (jump_to t k) vars' labels'
-    walked-jump t k i = record { round = sym (jump-step p a b g.below ev es said passed (left - 1) t k i) ∙ more; unended = λ _. refl; within = rw (ap labels_of i) at fits }
+    pub walked-jump : (t : ℕ) → w ≡ Ok (Leading.Jump t) → Walked p q block count vars₀ labels₀ (jump_to t k) vars' labels'
+    walked-jump t i = record { round = sym (jump-step p a b g.below ev es said passed (left - 1) t i) ∙ more; unended = λ _. refl; within = fits }
 
-    pub walked_on : Proper (rule_in p) → (t k : ℕ) → w ≡ Passage.Goto t k → Going p q block count vars₀ labels₀ (left - 1) t k vars' labels'
-    walked_on ok t k i = record {
-      below = goto-below p a b g.below ev es said passed ok t k i;
-      few = rw (ap labels_of i) at fits;
-      walk' = sym (goto-step p a b g.below ev es said passed (left - 1) t k i) ∙ more;
+    pub walked_on : Proper (rule_in p) → (t : ℕ) → w ≡ Ok (Leading.Goto t) → Going p q block count vars₀ labels₀ (left - 1) t k vars' labels'
+    walked_on ok t i = record {
+      below = goto-below p a b g.below ev es said passed ok t i;
+      few = fits;
+      walk' = sym (goto-step p a b g.below ev es said passed (left - 1) t i) ∙ more;
     }

@@ -22,9 +22,8 @@ use Rattle.definitions.specs.declared.Finish.{Finish}
 use Rattle.definitions.proofs.Values.{values_length, values-set, values-append}
 use Rattle.readers.specs.Readings.{stmt_body, stmt_at}
 use Rattle.evaluators.specs.Answer.{Readable, answer}
-use Rattle.rounds.specs.Run.{StmtHere, labels_in, StmtRun, BlockHere, BodyRun}
+use Rattle.rounds.specs.Run.{StmtHere, Ran, labels_in, StmtRun, BlockHere, BodyRun}
 use Rattle.std.specs.Prelude.{Ok, Err}
-use Rattle.rounds.specs.declared.blocks.Body.{Body}
 use Rattle.evaluators.proofs.Reading.{no_got, then-got, one-got, byte-got, variable_got}
 use Rattle.evaluators.proofs.Skipping.{past-grows, past_one, expr_past}
 use Rattle.evaluators.proofs.Sizes.{set-size, emit_size, first-size}
@@ -109,24 +108,24 @@ module _ {p : Got Expr} {e : Expr} {n : ℕ} (reads : p ≡ got e n) (at : ℕ) 
 
 module _ {v : ℕ} {s : List ℕ} {at : ℕ} (h : StmtHere v s at) {q count : ℕ} {vars labels : List Word} (few : count ≤ q) where
   -- the row ends so, here
-  ends : (how : Finish) → step q h.what (at_byte at) (values_in vars) (labels_in count labels) ≡ ended how (labels_in count labels) → StmtRun h.what at h.next q count vars labels (Body.Ended how count) vars labels
-  ends how e = record { way = sym e; place = λ p k r. let z : ◌≡◌ {A = ℕ} 0 1 = cc in absurd (omega arith); grows = omega arith; within = few; rest = refl }
+  ends : (how : Finish) → step q h.what (at_byte at) (values_in vars) (labels_in count labels) ≡ ended how (labels_in count labels) → StmtRun h.what at h.next q count vars labels (Err how) count vars labels
+  ends how e = record { way = sym e; place = λ p r. let z : ◌≡◌ {A = ℕ} 0 1 = cc in absurd (omega arith); grows = omega arith; within = few; rest = refl }
 
   -- ---- a set
-  pub set_on : (z : ℤ) (m : ℕ) → get_or s at 0 ≡ 0x20 → answer (expr_at depth v s (at + 2)) (at + 2) vars ≡ Ok (z, m) → StmtRun h.what at h.next q count vars labels (Body.Ready m count) (set vars (get_or s (at + 1) 0) z) labels
+  pub set_on : (z : ℤ) (m : ℕ) → get_or s at 0 ≡ 0x20 → answer (expr_at depth v s (at + 2)) (at + 2) vars ≡ Ok (z, m) → StmtRun h.what at h.next q count vars labels (Ok m) count (set vars (get_or s (at + 1) 0) z) labels
   unfolding step
   set_on z m e a =
       let w = set_here v s at h e in
       let u = valued w.reads (at + 2) vars z m a in
       let same = u.0 in
-      record { way = rw (w.is, u.1, values-set vars (get_or s (at + 1) 0) z); place = λ p k r. cc; grows = omega arith; within = few; rest = refl }
+      record { way = rw (w.is, u.1, values-set vars (get_or s (at + 1) 0) z); place = λ p r. cc; grows = omega arith; within = few; rest = refl }
 
-  pub set-fault : (k : Flaw) (how : Finish) → get_or s at 0 ≡ 0x20 → answer (expr_at depth v s (at + 2)) (at + 2) vars ≡ Err k → how ≡ faulted k → StmtRun h.what at h.next q count vars labels (Body.Ended how count) vars labels
+  pub set-fault : (k : Flaw) → get_or s at 0 ≡ 0x20 → answer (expr_at depth v s (at + 2)) (at + 2) vars ≡ Err k → StmtRun h.what at h.next q count vars labels (Err (faulted k)) count vars labels
   unfolding step
-  set-fault k how e a f = let w = set_here v s at h e in rw f (ends (faulted k) (rw (w.is, faulty w.reads (at + 2) vars k a)))
+  set-fault k e a = let w = set_here v s at h e in ends (faulted k) (rw (w.is, faulty w.reads (at + 2) vars k a))
 
   -- ---- an emit
-  pub emit_on : (z : ℤ) (m : ℕ) → (get_or s at 0 ≡ 0x20 → ⊥) → answer (expr_at depth v s (at + 1)) (at + 1) vars ≡ Ok (z, m) → count < q → q ≤ length labels → StmtRun h.what at h.next q count vars labels (Body.Ready m (count + 1)) vars (set labels count z)
+  pub emit_on : (z : ℤ) (m : ℕ) → (get_or s at 0 ≡ 0x20 → ⊥) → answer (expr_at depth v s (at + 1)) (at + 1) vars ≡ Ok (z, m) → count < q → q ≤ length labels → StmtRun h.what at h.next q count vars labels (Ok m) (count + 1) vars (set labels count z)
   unfolding step
   emit_on z m f a l room =
       let w = emit_here v s at h f in
@@ -134,9 +133,9 @@ module _ {v : ℕ} {s : List ℕ} {at : ℕ} (h : StmtHere v s at) {q count : �
       let same = u.0 in
       let more : labels_in (count + 1) (set labels count z) ≡ labels_in count labels ++ (number z ∷ []) = rw (add-one, take-suc-set labels count z (omega arith)) (values-append (take count labels) (z ∷ [])) in
       let size : length (labels_in count labels) ≡ count = values_length (take count labels) ∙ length-take-le count labels (omega arith) in
-      record { way = rw (w.is, u.1, size, lt-ltb count q l, more); place = λ p k r. cc; grows = omega arith; within = omega arith; rest = drop-set-lt (count + 1) labels count z (omega arith) }
+      record { way = rw (w.is, u.1, size, lt-ltb count q l, more); place = λ p r. cc; grows = omega arith; within = omega arith; rest = drop-set-lt (count + 1) labels count z (omega arith) }
 
-  pub emit_full : (z : ℤ) (m : ℕ) → (get_or s at 0 ≡ 0x20 → ⊥) → answer (expr_at depth v s (at + 1)) (at + 1) vars ≡ Ok (z, m) → q ≤ count → q ≤ length labels → StmtRun h.what at h.next q count vars labels (Body.Ended quota_full count) vars labels
+  pub emit_full : (z : ℤ) (m : ℕ) → (get_or s at 0 ≡ 0x20 → ⊥) → answer (expr_at depth v s (at + 1)) (at + 1) vars ≡ Ok (z, m) → q ≤ count → q ≤ length labels → StmtRun h.what at h.next q count vars labels (Err quota_full) count vars labels
   unfolding step
   emit_full z m f a l room =
       let w = emit_here v s at h f in
@@ -144,9 +143,9 @@ module _ {v : ℕ} {s : List ℕ} {at : ℕ} (h : StmtHere v s at) {q count : �
       let size : length (labels_in count labels) ≡ count = values_length (take count labels) ∙ length-take-le count labels (omega arith) in
       ends quota_full (rw (w.is, u.1, size, le-ltb count q l))
 
-  pub emit_fault : (k : Flaw) (how : Finish) → (get_or s at 0 ≡ 0x20 → ⊥) → answer (expr_at depth v s (at + 1)) (at + 1) vars ≡ Err k → how ≡ faulted k → StmtRun h.what at h.next q count vars labels (Body.Ended how count) vars labels
+  pub emit_fault : (k : Flaw) → (get_or s at 0 ≡ 0x20 → ⊥) → answer (expr_at depth v s (at + 1)) (at + 1) vars ≡ Err k → StmtRun h.what at h.next q count vars labels (Err (faulted k)) count vars labels
   unfolding step
-  emit_fault k how g a f = let w = emit_here v s at h g in rw f (ends (faulted k) (rw (w.is, faulty w.reads (at + 1) vars k a)))
+  emit_fault k g a = let w = emit_here v s at h g in ends (faulted k) (rw (w.is, faulty w.reads (at + 1) vars k a))
 
 -- what a call of the evaluator asks
 module _ (v : ℕ) (s : List ℕ) (at : ℕ) (h : StmtHere v s at) where
@@ -262,13 +261,13 @@ module _ {v : ℕ} {s : List ℕ} {at : ℕ} {h : BlockHere v s at} {q count : �
         ap (λ (b : Block). steps q b.body (at_byte i) (values_in vars') (labels_in n labels')) w.is
         ∙ ap (λ k. onward (step q w.stmt.what (at_byte i) (values_in vars') (labels_in n labels')) (λ env ls. steps q w.rest.what.body (at_byte k) env ls)) (sym (stmt_size_lem v s i w.stmt))
 
-    module _ {r : Body} {env out : List Word} (ran : (x : StmtHere v s i) → StmtRun x.what i x.next q n vars' labels' r env out) where
-      pub went_on : (p m : ℕ) → r ≡ Body.Ready p m → length out ≡ length labels' → (i < p) × Rest v s at h q count vars labels env out p m
+    module _ {r : Ran} {m : ℕ} {env out : List Word} (ran : (x : StmtHere v s i) → StmtRun x.what i x.next q n vars' labels' r m env out) where
+      pub went_on : (p : ℕ) → r ≡ Ok p → length out ≡ length labels' → (i < p) × Rest v s at h q count vars labels env out p m
       unfolding stmt-next
-      went_on p m e size =
+      went_on p e size =
           let w = stmt_follows v s i R.here l u in
           let x = rw e at (ran stmt-next) in
-          let place : w.stmt.next ≡ p = sym (x.place p m refl) in
+          let place : w.stmt.next ≡ p = sym (x.place p refl) in
           let g = stmt_grows v s i w.stmt in
           let later : drop m out ≡ drop m labels = x.rest ∙ drop-further n m labels' labels x.grows R.stays in
           let left : steps q w.rest.what.body (at_byte w.stmt.next) (values_in env) (labels_in m out) ≡ steps q h.what.body (at_byte at) (values_in vars) (labels_in count labels) = rw (← x.way) at (sym split) ∙ R.left in (
@@ -287,17 +286,17 @@ module _ {v : ℕ} {s : List ℕ} {at : ℕ} {h : BlockHere v s at} {q count : �
             }),
           )
 
-      pub ended-there : (how : Finish) (m : ℕ) → r ≡ Body.Ended how m → BodyRun v s at h q count vars labels (Body.Ended how m) env out
-      ended-there how m e =
+      pub ended-there : (how : Finish) → r ≡ Err how → BodyRun v s at h q count vars labels (Err how) m env out
+      ended-there how e =
           let x = rw e at (ran stmt-next) in
           let way : ended how (labels_in m out) ≡ steps q h.what.body (at_byte at) (values_in vars) (labels_in count labels) = rw (← x.way) at (sym split) ∙ R.left in
-          record { way = way; ending = λ p k q. let z : ◌≡◌ {A = ℕ} 0 1 = cc in absurd (omega arith); place = λ p k q. let z : ◌≡◌ {A = ℕ} 0 1 = cc in absurd (omega arith); within = x.within; rest = x.rest ∙ drop-further n m labels' labels x.grows R.stays }
+          record { way = way; ending = λ p q. let z : ◌≡◌ {A = ℕ} 0 1 = cc in absurd (omega arith); place = λ p q. let z : ◌≡◌ {A = ℕ} 0 1 = cc in absurd (omega arith); within = x.within; rest = x.rest ∙ drop-further n m labels' labels x.grows R.stays }
 
   -- ---- the end of the statements
-  pub all_run : (get_or s i 0 ≡ 0x20 → ⊥) → (get_or s i 0 ≡ 0x21 → ⊥) → BodyRun v s at h q count vars labels (Body.Ready i n) vars' labels'
+  pub all_run : (get_or s i 0 ≡ 0x20 → ⊥) → (get_or s i 0 ≡ 0x21 → ⊥) → BodyRun v s at h q count vars labels (Ok i) n vars' labels'
   unfolding steps in_turn
   all_run a c =
       let w = end-here v s i R.here a c in
       let size : body_size R.here.what ≡ 0 = rw w.1 in
       let none : steps q R.here.what.body (at_byte i) (values_in vars') (labels_in n labels') ≡ on (values_in vars') (labels_in n labels') = rw w.1 in
-      record { way = sym none ∙ R.left; ending = λ p k e. moved v s _ _ _ _ _ _ i p R.targets R.ending R.next (cc) w.0; place = λ p k e. let same : i ≡ p = cc in omega (arith, same, size, R.passed); within = R.within; rest = R.stays }
+      record { way = sym none ∙ R.left; ending = λ p e. moved v s _ _ _ _ _ _ i p R.targets R.ending R.next (cc) w.0; place = λ p e. let same : i ≡ p = cc in omega (arith, same, size, R.passed); within = R.within; rest = R.stays }

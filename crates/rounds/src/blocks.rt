@@ -6,65 +6,43 @@ ghost use Rattle.definitions.specs.Meaning.{at_byte};
 ghost use Rattle.definitions.specs.Direct.{exit};
 ghost use Rattle.columns.specs.OnPlan.{kept};
 ghost use Rattle.evaluators.specs.Answer.{Sized};
-ghost use Rattle.rounds.specs.Run.{EndHere, leading_of, StmtHere, StmtRun, BlockHere, BodyRun, passage_of, BlockRun};
+ghost use Rattle.rounds.specs.Run.{EndHere, leading_of, StmtHere, StmtRun, BlockHere, BodyRun, BlockRun};
 
-use definitions::{DEPTH, Finish, Flaw, LEVELS, faulted, quota_full, stopped};
+use definitions::{DEPTH, Finish, Flaw, LEVELS, faulted, quota_full};
 use evaluators::tokens::skip;
 use evaluators::{Rule, Vars, eval_cond, eval_expr};
 
 // ---- endings
 
-// Where an ending leads, or a fault.
-#[derive(Drop)]
+// Where an ending leads.
+#[derive(Clone, Copy, Debug, PartialEq, Eq)]
 pub enum Leading {
     Goto(u8),
     Jump(u8),
     Stop,
-    Fault(Flaw),
 }
 
-pub fn run_end(s: &Rule, at: usize, v: u8, left: u8, vars: &Vars) -> Leading
+pub fn run_end(s: &Rule, at: usize, v: u8, left: u8, vars: &Vars) -> Result<Leading, Flaw>
     requires { Sized v s.now × EndHere left v s.now at }
     ensures { (h : EndHere left v s.now at) → result ≡ leading_of (exit h.ending (at_byte at) (values_in vars.now)) }
 {
-    let tag = s[at];
     let next = at + 1;
-    let less = left - 1;
-    match tag {
-        0x30 => {
-            let target = s[next];
-            Leading::Goto(target)
-        }
-        0x31 => {
-            let start = s[next];
-            Leading::Jump(start)
-        }
-        0x32 => Leading::Stop,
+    match s[at] {
+        0x30 => Ok(Leading::Goto(s[next])),
+        0x31 => Ok(Leading::Jump(s[next])),
+        0x32 => Ok(Leading::Stop),
         // 33: nothing else can stand here
-        _ => match eval_cond(s, next, v, DEPTH, vars) {
-            Err(k) => Leading::Fault(k),
-            Ok((h, n)) => {
-                if h {
-                    run_end(s, n, v, less, vars)
-                } else {
-                    let place = skip(s, n);
-                    run_end(s, place, v, less, vars)
-                }
-            }
-        },
+        _ => {
+            let (h, n) = eval_cond(s, next, v, DEPTH, vars)?;
+            let place = if h { n } else { skip(s, n) };
+            run_end(s, place, v, left - 1, vars)
+        }
     }
 }
 
 // ---- statements
 
-// What statements come to: they are done, with the place after them; or the row has ended. Each with the count of labels.
-#[derive(Drop)]
-pub enum Body {
-    Ready(usize, usize),
-    Ended(Finish, usize),
-}
-
-// The statement at `at`. An emit works out its value first; then the quota is asked.
+// The statement at `at`, which answers the place after it, or how the row has ended there. An emit works out its value first; then the quota is asked.
 fn step(
     s: &Rule,
     at: usize,
@@ -72,40 +50,31 @@ fn step(
     quota: usize,
     vars: &mut Vars,
     labels: &mut [i32],
-    count: usize,
-) -> Body
+    count: &mut usize,
+) -> Result<usize, Finish>
     requires sized { Sized v s.now × StmtHere v s.now at }
-    requires count_le_quota { (count ≤ quota) × (quota ≤ length labels.old) }
-    ensures { (h : StmtHere v s.now at) → StmtRun h.what at h.next quota count vars.old labels.old result vars.new labels.new }
+    requires count_le_quota { (count.old ≤ quota) × (quota ≤ length labels.old) }
+    ensures { (h : StmtHere v s.now at) → StmtRun h.what at h.next quota count.old vars.old labels.old result count.new vars.new labels.new }
 {
-    let tag = s[at];
     let next = at + 1;
-    if tag == 0x20 {
+    if s[at] == 0x20 {
         let x = s[next] as usize;
-        let place = at + 2;
-        match eval_expr(s, place, v, DEPTH, vars) {
-            Err(k) => Body::Ended(faulted(k), count),
-            Ok((z, end)) => {
-                vars[x] = z;
-                Body::Ready(end, count)
-            }
-        }
+        let (z, end) = eval_expr(s, at + 2, v, DEPTH, vars).map_err(faulted)?;
+        vars[x] = z;
+        Ok(end)
     } else {
         // 21: nothing else can stand here
-        match eval_expr(s, next, v, DEPTH, vars) {
-            Err(k) => Body::Ended(faulted(k), count),
-            Ok((z, end)) => {
-                if quota <= count {
-                    return Body::Ended(quota_full(), count);
-                }
-                labels[count] = z;
-                Body::Ready(end, count + 1)
-            }
+        let (z, end) = eval_expr(s, next, v, DEPTH, vars).map_err(faulted)?;
+        if quota <= *count {
+            return Err(quota_full());
         }
+        labels[*count] = z;
+        *count += 1;
+        Ok(end)
     }
 }
 
-// The statements of the block at `at`, one after the other.
+// The statements of the block at `at`, one after the other: the place after them, or how the row has ended.
 pub fn run_body(
     s: &Rule,
     at: usize,
@@ -113,31 +82,17 @@ pub fn run_body(
     quota: usize,
     vars: &mut Vars,
     labels: &mut [i32],
-    count: usize,
-) -> Body
+    count: &mut usize,
+) -> Result<usize, Finish>
     requires sized { Sized v s.now × BlockHere v s.now at }
-    requires count_le_quota { (count ≤ quota) × (quota ≤ length labels.old) }
-    ensures { (h : BlockHere v s.now at) → BodyRun v s.now at h quota count vars.old labels.old result vars.new labels.new }
+    requires count_le_quota { (count.old ≤ quota) × (quota ≤ length labels.old) }
+    ensures { (h : BlockHere v s.now at) → BodyRun v s.now at h quota count.old vars.old labels.old result count.new vars.new labels.new }
 {
     let mut i = at;
-    let mut n = count;
-    loop {
-        let tag = s[i];
-        match tag {
-            0x20 | 0x21 => match step(s, i, v, quota, vars, labels, n) {
-                Body::Ended(how, m) => {
-                    return Body::Ended(how, m);
-                }
-                Body::Ready(place, m) => {
-                    i = place;
-                    n = m;
-                }
-            },
-            _ => {
-                return Body::Ready(i, n);
-            }
-        }
+    while s[i] == 0x20 || s[i] == 0x21 {
+        i = step(s, i, v, quota, vars, labels, count)?;
     }
+    Ok(i)
 }
 
 // ---- columns
@@ -147,54 +102,24 @@ pub fn keep(vars: &mut Vars, v: u8, mask: u16)
     requires { v ≤ 16 }
     ensures { values_in vars.new ≡ kept v (bit_of mask) (values_in vars.old) }
 {
-    let count = v as usize;
-    let mut m = mask;
-    let mut k: usize = 0;
-    while k < count {
-        let x = k;
-        let bit = m % 2;
-        k += 1;
-        m = m / 2;
-        if bit == 0 {
-            vars[x] = 0;
+    for k in 0..v as usize {
+        if (mask >> k) % 2 == 0 {
+            vars[k] = 0;
         }
     }
 }
 
 // ---- a block
 
-// On to another block, a jump, or the row has ended. Each with the count of labels.
-#[derive(Drop)]
-pub enum Passage {
-    Goto(u8, usize),
-    Jump(u8, usize),
-    Ended(Finish, usize),
-}
-
-// Where an ending leads, with n labels.
-fn led_to(way: Leading, n: usize) -> Passage
-    ensures { result ≡ passage_of way n }
-{
-    match way {
-        Leading::Goto(t) => Passage::Goto(t, n),
-        Leading::Jump(t) => Passage::Jump(t, n),
-        Leading::Stop => Passage::Ended(stopped(), n),
-        Leading::Fault(k) => {
-            let how = faulted(k);
-            Passage::Ended(how, n)
-        }
-    }
-}
-
 // What a plan tells of a block: its place in the rule, and the masks of its input and output columns.
-#[derive(Drop)]
+#[derive(Clone, Copy, Debug, PartialEq, Eq)]
 pub struct Entry {
     pub place: usize,
     pub inputs: u16,
     pub outputs: u16,
 }
 
-// The block of an entry: entered with its input columns alone, run, and left with its output columns alone.
+// The block of an entry: entered with its input columns alone, run, and left with its output columns alone. It answers where its ending leads.
 pub fn run_block(
     s: &Rule,
     e: Entry,
@@ -202,19 +127,15 @@ pub fn run_block(
     quota: usize,
     vars: &mut Vars,
     labels: &mut [i32],
-    count: usize,
-) -> Passage
+    count: &mut usize,
+) -> Result<Leading, Finish>
     requires sized { Sized v s.now × BlockHere v s.now e.place }
-    requires count_le_quota { (count ≤ quota) × (quota ≤ length labels.old) }
-    ensures { (h : BlockHere v s.now e.place) → BlockRun v s.now e h quota count vars.old labels.old result vars.new labels.new }
+    requires count_le_quota { (count.old ≤ quota) × (quota ≤ length labels.old) }
+    ensures { (h : BlockHere v s.now e.place) → BlockRun v s.now e h quota count.old vars.old labels.old result count.new vars.new labels.new }
 {
     keep(vars, v, e.inputs);
-    match run_body(s, e.place, v, quota, vars, labels, count) {
-        Body::Ended(how, n) => Passage::Ended(how, n),
-        Body::Ready(place, n) => {
-            let way = run_end(s, place, v, LEVELS, vars);
-            keep(vars, v, e.outputs);
-            led_to(way, n)
-        }
-    }
+    let place = run_body(s, e.place, v, quota, vars, labels, count)?;
+    let way = run_end(s, place, v, LEVELS, vars).map_err(faulted)?;
+    keep(vars, v, e.outputs);
+    Ok(way)
 }

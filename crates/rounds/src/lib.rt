@@ -9,8 +9,8 @@ ghost use Rattle.definitions.specs.Plan.{carried};
 ghost use Rattle.plans.specs.Accepted.{rule_in, Accepted};
 ghost use Rattle.rounds.specs.Round.{Lies, Entered, jump_to, Walked};
 
-use blocks::{Entry, Passage, run_block};
-use definitions::{Finish, unfinished};
+use blocks::{Entry, Leading, run_block};
+use definitions::{Finish, stopped, unfinished};
 pub use evaluators::Rule;
 use evaluators::Vars;
 
@@ -32,7 +32,7 @@ fn entry_of(plan: &[u8], b: u8) -> Entry
 }
 
 // What a round comes to: a row that goes on jumps to `block`. With the count of labels.
-#[derive(Drop)]
+#[derive(Clone, Copy)]
 pub struct RoundEnd {
     pub finish: Finish,
     pub block: u8,
@@ -42,9 +42,8 @@ pub struct RoundEnd {
 fn jump_to(block: u8, count: usize) -> RoundEnd
     ensures { result ≡ jump_to block count }
 {
-    let finish = unfinished();
     RoundEnd {
-        finish,
+        finish: unfinished(),
         block,
         count,
     }
@@ -65,28 +64,24 @@ pub fn round(
     ensures { Walked plan.now quota block count vars.old labels.old result vars.new labels.new }
 {
     let v = plan[1];
-    let mut left = plan[3];
     let mut b = block;
     let mut n = count;
-    while 0 < left {
-        left -= 1;
+    for _ in 0..plan[3] {
         let e = entry_of(plan, b);
-        match run_block(rule, e, v, quota, vars, labels, n) {
-            Passage::Ended(finish, m) => {
-                return RoundEnd {
-                    finish,
-                    block: b,
-                    count: m,
-                };
-            }
-            Passage::Jump(t, m) => {
-                return jump_to(t, m);
-            }
-            Passage::Goto(t, m) => {
+        let finish = match run_block(rule, e, v, quota, vars, labels, &mut n) {
+            Ok(Leading::Goto(t)) => {
                 b = t;
-                n = m;
+                continue;
             }
-        }
+            Ok(Leading::Jump(t)) => return jump_to(t, n),
+            Ok(Leading::Stop) => stopped(),
+            Err(how) => how,
+        };
+        return RoundEnd {
+            finish,
+            block: b,
+            count: n,
+        };
     }
     jump_to(b, n)
 }

@@ -1,11 +1,11 @@
 -- The proof of `blocks::run_end`, which calls itself. Each return, and what each call requires, is a law of `Ending` at what the callees say.
-use Rattle.std.proofs.Common.{ℕ, ◌≡◌, ◌≤◌, ◌<◌, get_or, List, arith}
+use Rattle.std.proofs.Common.{ℕ, ◌≡◌, ◌≤◌, ◌<◌, ◌∙◌, get_or, List, arith}
 use Rattle.evaluators.specs.Answer.{Sized}
-use Rattle.evaluators.proofs.Answers.{told}
+use Rattle.evaluators.proofs.Answers.{told, passed}
 use Rattle.rounds.specs.Run.{EndHere}
 use Rattle.rounds.proofs.Ending as laws
 use Rattle.rounds.proofs.blocks.+run_end.Goals as goal
-use Rattle.rounds.proofs.blocks.+run_end.Goals.{In_default}
+use Rattle.rounds.proofs.blocks.+run_end.Goals.{In_default, then-h, else-h}
 
 -- a tag stands there, and a level is left
 end_there : (left v : ℕ) (s : List ℕ) (at : ℕ) → Sized v s × EndHere left v s at → (at < 4064) × (1 ≤ left)
@@ -15,14 +15,11 @@ end_there left v s at z = let h = laws.end-there left v s at z.1 in (omega (arit
 branch : (t : ℕ) (c : In_default t) → let a = c.args in get_or a.s.now a.at 0 ≡ 0x33
 branch t c = let a = c.args in laws.if_tag_lem a.left a.v a.s.now a.at c.requires.1 (λ e. omega arith) (λ e. omega arith) (λ e. omega arith)
 
-pub bounds-s-at : goal.bounds-s-at
-bounds-s-at t c = let a = c.args in (end_there a.left a.v a.s.now a.at c.requires).0
-
 pub overflow_add-next : goal.overflow_add-next
 overflow_add-next t c = let a = c.args in omega (arith, (end_there a.left a.v a.s.now a.at c.requires).0)
 
-pub overflow_sub-less : goal.overflow_sub-less
-overflow_sub-less t c = let a = c.args in omega (arith, (end_there a.left a.v a.s.now a.at c.requires).1)
+pub bounds-s-at : goal.bounds-s-at
+bounds-s-at t c = let a = c.args in (end_there a.left a.v a.s.now a.at c.requires).0
 
 pub bounds-s-next : goal.bounds-s-next
 bounds-s-next t c = let a = c.args in omega (arith, laws.goto-there a.left a.v a.s.now a.at c.requires.1 c.in-48.is, c.requires.0.1)
@@ -35,24 +32,21 @@ eval_cond-requires t c =
     let a = c.args in
     (c.requires.0, laws.if-stands a.left a.v a.s.now a.at c.requires.1 (branch t (goal.at.eval_cond-requires t c).In_default))
 
+pub overflow_sub-left : goal.overflow_sub-left
+overflow_sub-left t c = let a = c.args in omega (arith, (end_there a.left a.v a.s.now a.at c.requires).1)
+
 pub run_end-requires : goal.run_end-requires
 run_end-requires t c =
-    let a = c.args in (
+    let a = c.args in
+    let tag = branch t (goal.at.run_end-requires t c).In_default in
+    let held = told c.eval_cond.ensures c.in_ok-h-in_default.was in (
       omega (arith, (end_there a.left a.v a.s.now a.at c.requires).1),
       (
         c.requires.0,
-        laws.if-first a.left a.v a.s.now a.at c.requires.1 (branch t (goal.at.run_end-requires t c).In_default) a.vars.now _ _ (told c.eval_cond.ensures c.in-Ok.is),
-      ),
-    )
-
-pub run_end-requires-else-h : goal.run_end-requires-else-h
-run_end-requires-else-h t c =
-    let a = c.args in (
-      omega (arith, (end_there a.left a.v a.s.now a.at c.requires).1),
-      (
-        c.requires.0,
-        rw c.skip-place.ensures
-            (laws.if-second a.left a.v a.s.now a.at c.requires.1 (branch t (goal.at.run_end-requires-else-h t c).In_default) a.vars.now _ _ (told c.eval_cond.ensures c.in-Ok.is)),
+        elim c.if-h.branch [
+          | then-h w ↦ rw w.place-is (laws.if-first a.left a.v a.s.now a.at c.requires.1 tag a.vars.now _ _ held)
+          | else-h w ↦ rw (w.place-is, w.skip-place.ensures) (laws.if-second a.left a.v a.s.now a.at c.requires.1 tag a.vars.now _ _ held)
+        ],
       ),
     )
 
@@ -65,17 +59,17 @@ returns-in-49 t c h = let a = c.args in laws.jump_answer a.left a.v a.s.now a.at
 pub returns-in-50 : goal.returns-in-50
 returns-in-50 t c h = let a = c.args in laws.stop_answer a.left a.v a.s.now a.at h a.vars.now c.in-50.is
 
-pub returns-in-Err : goal.returns-in-Err
-returns-in-Err t c h =
+pub returns-in_err-h-in_default : goal.returns-in_err-h-in_default
+returns-in_err-h-in_default t c h =
     let a = c.args in
-    laws.if-fault a.left a.v a.s.now a.at h (branch t (goal.at.returns-in-Err t c).In_default) a.vars.now _ (told c.eval_cond.ensures c.in-Err.is)
+    passed _ _ c.from_residual.ensures.1 ∙ laws.if-fault a.left a.v a.s.now a.at h (branch t (goal.at.returns-in_err-h-in_default t c).In_default) a.vars.now _ (told c.eval_cond.ensures c.in_err-h-in_default.was)
 
-pub returns-then-h : goal.returns-then-h
-returns-then-h t c h =
+pub returns-after-h : goal.returns-after-h
+returns-after-h t c h =
     let a = c.args in
-    laws.if-true a.left a.v a.s.now a.at h (branch t (goal.at.returns-then-h t c).In_default) a.vars.now _ _ (told c.eval_cond.ensures c.in-Ok.is) _ c.if-h.true c.run_end.ensures
-
-pub returns-else-h : goal.returns-else-h
-returns-else-h t c h =
-    let a = c.args in
-    laws.if-false a.left a.v a.s.now a.at h (branch t (goal.at.returns-else-h t c).In_default) a.vars.now _ _ (told c.eval_cond.ensures c.in-Ok.is) _ c.if-h.false (rw c.skip-place.ensures at c.run_end-else-h.ensures)
+    let tag = branch t (goal.at.returns-after-h t c).In_default in
+    let held = told c.eval_cond.ensures c.in_ok-h-in_default.was in
+    elim c.if-h.branch [
+      | then-h w ↦ laws.if-true a.left a.v a.s.now a.at h tag a.vars.now _ _ held _ w.if-h.true (rw w.place-is at c.run_end.ensures)
+      | else-h w ↦ laws.if-false a.left a.v a.s.now a.at h tag a.vars.now _ _ held _ w.if-h.false (rw (w.place-is, w.skip-place.ensures) at c.run_end.ensures)
+    ]

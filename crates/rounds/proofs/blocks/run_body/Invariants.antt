@@ -6,8 +6,8 @@ use Rattle.rounds.specs.Run.{BlockHere}
 use Rattle.rounds.proofs.Stepping.{Rest}
 use Rattle.rounds.proofs.blocks.run_body.Given as goal
 
-abbrev pub invariant-loop-vars : goal.invariant-loop-vars
-invariant-loop-vars l = (h : BlockHere l.v l.s l.at) → Rest l.v l.s l.at h l.quota l.count l.initial.vars l.initial.labels l.vars l.labels l.i l.n
+abbrev pub invariant-loop-i : goal.invariant-loop-i
+invariant-loop-i l = (h : BlockHere l.v l.s l.at) → Rest l.v l.s l.at h l.quota l.initial.count l.initial.vars l.initial.labels l.vars l.labels l.i l.count
 
-abbrev pub decreases-loop-vars : goal.decreases-loop-vars
-decreases-loop-vars l = length l.s - l.i
+abbrev pub decreases-loop-i : goal.decreases-loop-i
+decreases-loop-i l = length l.s - l.i
