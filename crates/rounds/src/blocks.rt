@@ -2,13 +2,14 @@
 ghost use Rattle.std.specs.Prelude.{◌≡◌, ◌≤◌, length};
 ghost use Rattle.definitions.specs.Values.{values_in};
 ghost use Rattle.definitions.specs.Plan.{bit_of};
+ghost use Rattle.definitions.specs.Grammar.{levels};
 ghost use Rattle.definitions.specs.Meaning.{at_byte};
 ghost use Rattle.definitions.specs.Direct.{exit};
 ghost use Rattle.columns.specs.OnPlan.{kept};
 ghost use Rattle.evaluators.specs.Answer.{Sized};
 ghost use Rattle.rounds.specs.Run.{EndHere, leading_of, StmtHere, StmtRun, BlockHere, BodyRun, BlockRun};
 
-use definitions::{DEPTH, Finish, Flaw, LEVELS, faulted, quota_full};
+use definitions::{DEPTH, Finish, Flaw, faulted, quota_full};
 use evaluators::tokens::skip;
 use evaluators::{Rule, Vars, eval_cond, eval_expr};
 
@@ -22,21 +23,20 @@ pub enum Leading {
     Stop,
 }
 
-pub fn run_end(s: &Rule, at: usize, v: u8, left: u8, vars: &Vars) -> Result<Leading, Flaw>
-    requires { Sized v s.now × EndHere left v s.now at }
-    ensures { (h : EndHere left v s.now at) → result ≡ leading_of (exit h.ending (at_byte at) (values_in vars.now)) }
+pub fn run_end(s: &Rule, at: usize, v: u8, vars: &Vars) -> Result<Leading, Flaw>
+    requires { Sized v s.now × EndHere levels v s.now at }
+    ensures { (h : EndHere levels v s.now at) → result ≡ leading_of (exit h.ending (at_byte at) (values_in vars.now)) }
 {
-    let next = at + 1;
-    match s[at] {
-        0x30 => Ok(Leading::Goto(s[next])),
-        0x31 => Ok(Leading::Jump(s[next])),
-        0x32 => Ok(Leading::Stop),
-        // 33: nothing else can stand here
-        _ => {
-            let (h, n) = eval_cond(s, next, v, DEPTH, vars)?;
-            let place = if h { n } else { skip(s, n) };
-            run_end(s, place, v, left - 1, vars)
-        }
+    let mut i = at;
+    while s[i] == 0x33 {
+        let (h, n) = eval_cond(s, i + 1, v, DEPTH, vars)?;
+        i = if h { n } else { skip(s, n) };
+    }
+    match s[i] {
+        0x30 => Ok(Leading::Goto(s[i + 1])),
+        0x31 => Ok(Leading::Jump(s[i + 1])),
+        // 32: nothing else can stand here
+        _ => Ok(Leading::Stop),
     }
 }
 
@@ -135,7 +135,7 @@ pub fn run_block(
 {
     keep(vars, v, e.inputs);
     let place = run_body(s, e.place, v, quota, vars, labels, count)?;
-    let way = run_end(s, place, v, LEVELS, vars).map_err(faulted)?;
+    let way = run_end(s, place, v, vars).map_err(faulted)?;
     keep(vars, v, e.outputs);
     Ok(way)
 }
