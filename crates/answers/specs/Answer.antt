@@ -1,5 +1,5 @@
 -- 01, the program: what it prints, of the file's bytes and the input's bytes.
-use Rattle.std.specs.Prelude.{ℕ, zero, suc, ◌+◌, ◌-◌, ◌*◌, ◌/◌, ◌%◌, Bool, cond, not, ◌||◌, List, [], ◌∷◌, ◌++◌, eqb, ltb, length, get_or}
+use Rattle.std.specs.Prelude.{ℕ, zero, suc, ◌+◌, ◌-◌, ◌*◌, ◌/◌, ◌%◌, Bool, cond, not, ◌||◌, List, [], ◌∷◌, ◌++◌, eqb, ltb, length, take, get_or}
 use Rattle.definitions.specs.Values.{Word}
 use Rattle.definitions.specs.Grammar.{word_of, constant_in, most_variables}
 use Rattle.definitions.specs.Plan.{planned, longest_plan}
@@ -42,6 +42,11 @@ result_room = most_rows * record_size most_quota
 
 abbrev pub work_room : ℕ
 work_room = most_rows * line_size most_columns
+
+-- what a buffer holds of an answer, or the refusal in its place
+abbrev pub text_of : Reply → List ℕ → List ℕ
+text_of (Ok n) out = take n out
+text_of (Err f) out = refusal_text (number_of f.reason) f.place
 
 -- of a batch: its records, or why it is refused
 unfoldable pub ran_answer : Batch → Reply → List Word → List ℕ

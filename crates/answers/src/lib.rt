@@ -3,13 +3,13 @@
 
 mod files;
 
-ghost use Rattle.std.specs.Prelude.{◌≡◌, ◌+◌, ◌*◌, ◌≤◌, length, take};
+ghost use Rattle.std.specs.Prelude.{◌≡◌, ◌+◌, ◌*◌, ◌≤◌, length, take, IfOk};
 ghost use Rattle.io.specs.Counts.{IsPrefixLen};
 ghost use Rattle.definitions.specs.Batch.{common};
 ghost use Rattle.printing.specs.Text.{text_room};
-ghost use Rattle.answers.specs.Answer.{number_in, words_in, no_batch, most_input, batch_in, input_answer, batch_answer, answer_to};
+ghost use Rattle.answers.specs.Answer.{number_in, words_in, no_batch, most_input, batch_in, text_of, input_answer, batch_answer, answer_to};
 
-use definitions::{LONGEST_PLAN, ROWS, Reason, VARIABLES};
+use definitions::{LONGEST_PLAN, ROWS, Reason, Refusal, VARIABLES};
 pub use files::{open, print, write_answer};
 use layouts::{MOST_LINES, MOST_RECORDS};
 
@@ -37,18 +37,15 @@ fn put_batch(
     budget: usize,
     quota: usize,
     out: &mut [u8],
-) -> usize
+) -> Result<usize, Refusal>
     requires { text_room ≤ length out.old }
-    ensures prefix_len { IsPrefixLen result out.new }
-    ensures out_after { take result out.new ≡ batch_answer (record { plan = plan.entry.now; rows = rows; values = values.now; budgets = common budget; quota = quota }) }
+    ensures prefix_len { IfOk result (λ n. IsPrefixLen n out.new) }
+    ensures out_after { text_of result out.new ≡ batch_answer (record { plan = plan.entry.now; rows = rows; values = values.now; budgets = common budget; quota = quota }) }
 {
-    let mut result = [0i32; MOST_RECORDS];
+    let mut records = [0i32; MOST_RECORDS];
     let mut work = [0i32; MOST_LINES];
-    let reply = batches::run(plan, rows, values, budget, quota, &mut result, &mut work);
-    match reply {
-        Err(f) => printing::put_refusal(f.reason.number(), f.place, out),
-        Ok(most) => printing::put_answer(&result, rows, quota, most, out),
-    }
+    let most = batches::run(plan, rows, values, budget, quota, &mut records, &mut work)?;
+    Ok(printing::put_answer(&records, rows, quota, most, out))
 }
 
 // Whether an input of this size holds no batch.
@@ -59,11 +56,11 @@ fn is_cut(size: usize) -> bool
 }
 
 // The answer of a plan to an input that holds a batch.
-fn put_whole(plan: &[u8], input: &[u8], out: &mut [u8]) -> usize
+fn put_whole(plan: &[u8], input: &[u8], out: &mut [u8]) -> Result<usize, Refusal>
     requires in_bounds { (12 ≤ length input.now) × (length input.now ≤ most_input) }
     requires text_room_in_bounds { text_room ≤ length out.old }
-    ensures prefix_len { IsPrefixLen result out.new }
-    ensures out_after { take result out.new ≡ batch_answer (batch_in plan.now input.now) }
+    ensures prefix_len { IfOk result (λ n. IsPrefixLen n out.new) }
+    ensures out_after { text_of result out.new ≡ batch_answer (batch_in plan.now input.now) }
 {
     let n = (input.len() - 12) / 4;
     let mut room = [0i32; MOST_VALUES];
@@ -76,15 +73,26 @@ fn put_whole(plan: &[u8], input: &[u8], out: &mut [u8]) -> usize
 }
 
 // The answer of a plan to any input.
-fn put_input(plan: &[u8], input: &[u8], out: &mut [u8]) -> usize
+fn put_input(plan: &[u8], input: &[u8], out: &mut [u8]) -> Result<usize, Refusal>
     requires { text_room ≤ length out.old }
-    ensures prefix_len { IsPrefixLen result out.new }
-    ensures out_after { take result out.new ≡ input_answer plan.now input.now }
+    ensures prefix_len { IfOk result (λ n. IsPrefixLen n out.new) }
+    ensures out_after { text_of result out.new ≡ input_answer plan.now input.now }
 {
     if is_cut(input.len()) {
-        return printing::put_refusal(Reason::Misfit.number(), 0, out);
+        return Err(Reason::Misfit.at(0));
     }
     put_whole(plan, input, out)
+}
+
+// The answer of a file to any input.
+fn put_file(file: &[u8], input: &[u8], out: &mut [u8]) -> Result<usize, Refusal>
+    requires { text_room ≤ length out.old }
+    ensures prefix_len { IfOk result (λ n. IsPrefixLen n out.new) }
+    ensures out_after { text_of result out.new ≡ answer_to file.now input.now }
+{
+    let mut plan = [0u8; LONGEST_PLAN];
+    let size = plans::compile(file, &mut plan)?;
+    put_input(&plan[..size], input, out)
 }
 
 // Puts the answer at the start of out, and answers its length.
@@ -93,10 +101,8 @@ pub fn answer(file: &[u8], input: &[u8], out: &mut [u8]) -> usize
     ensures prefix_len { IsPrefixLen result out.new }
     ensures out_after { take result out.new ≡ answer_to file.now input.now }
 {
-    let mut plan = [0u8; LONGEST_PLAN];
-    let reply = plans::compile(file, &mut plan);
-    match reply {
+    match put_file(file, input, out) {
+        Ok(n) => n,
         Err(f) => printing::put_refusal(f.reason.number(), f.place, out),
-        Ok(size) => put_input(&plan[..size], input, out),
     }
 }
