@@ -1,5 +1,5 @@
 -- One row carried on in locals, round by round: it goes as the direct run does. Assumes nothing.
-use mathlib.Core.Path.{◌≡◌, refl, sym, ap, subst, ◌∙◌}
+use mathlib.Core.Path.{◌≡◌, refl, sym, ap, ◌∙◌}
 use mathlib.Core.Bool.{Bool, true, false}
 use Prim.Native.Nat.{ℕ, ◌+◌, ◌-◌, ◌≤◌, ◌<◌}
 use native.Mathlib.Omega.{arith}
@@ -77,12 +77,12 @@ progress_none r q block count labels vars k h = record {
   vars' = λ _. k.vars';
 }
 
-module _ {r : Rule} {q : ℕ} {s : State} {labels vars : List Word} (ok : Proper r) (sound : SoundNow r q s) (c : Progress) (w : ProgressTo r s (after r q c.rounds s) c labels vars) where
+module _ {r : Rule} {q : ℕ} {s : State} {labels vars : List Word} (ok : Proper r) (sound : SoundNow r q s) (n : ℕ) (c : Progress) (w : ProgressTo r s (after r q n s) c labels vars) where
   abbrev here : State
-  here = after r q c.rounds s
+  here = after r q n s
 
-  here-sound : Sound r q (s.begun + c.rounds) here
-  here-sound = after-sound r q ok s.begun s sound c.rounds
+  here-sound : Sound r q (s.begun + n) here
+  here-sound = after-sound r q ok s.begun s sound n
 
   pub few : c.count ≤ q
   few = omega (arith, w.count, here-sound.labels-few)
@@ -104,10 +104,10 @@ module _ {r : Rule} {q : ℕ} {s : State} {labels vars : List Word} (ok : Proper
     same-round = rw (w.block going, w.labels')
 
     -- one round more
-    pub progress-next : (e : RoundEnd) (labels' vars' : List Word) → ended_as e.finish e.block (values_in (take e.count labels')) (values_in vars') ≡ plan_walk (size r) r q c.block (values_in vars) (values_in (take c.count labels)) → (goes_on e.finish ≡ true → e.finish ≡ unfinished) → e.count ≤ length labels'
-        → ProgressTo r s (after r q (c.rounds + 1) s) (record { finish = e.finish; rounds = c.rounds + 1; block = e.block; count = e.count }) labels' vars'
+    pub progress-next : c.rounds ≡ n → (e : RoundEnd) (labels' vars' : List Word) → ended_as e.finish e.block (values_in (take e.count labels')) (values_in vars') ≡ plan_walk (size r) r q c.block (values_in vars) (values_in (take c.count labels)) → (goes_on e.finish ≡ true → e.finish ≡ unfinished) → e.count ≤ length labels'
+        → ProgressTo r s (after r q (n + 1) s) (record { finish = e.finish; rounds = n + 1; block = e.block; count = e.count }) labels' vars'
     unfolding after_from
-    progress-next e labels' vars' walked u h =
+    progress-next k e labels' vars' walked u h =
         let ls = values_in (take e.count labels') in
         let g : Gone r here (joined here (round_of r q here)) e.finish e.block ls (values_in vars') = gone r here _ _ both e.finish e.block ls (values_in vars') (walked ∙ same-round) u in
         rw (add-one, advance-on r q here going) record {
@@ -119,14 +119,10 @@ module _ {r : Rule} {q : ℕ} {s : State} {labels vars : List Word} (ok : Proper
           vars' = g.vars';
         }
 
-  -- all rounds
-  pub progress_all : (N : ℕ) → c.rounds ≡ N → ProgressTo r s (after r q N s) c labels vars
-  progress_all N e = subst (λ (n : ℕ). ProgressTo r s (after r q n s) c labels vars) e w
-
   -- a row that has ended stays
-  pub progress_early : (N : ℕ) → c.rounds ≤ N → goes_on c.finish ≡ false → ProgressTo r s (after r q N s) c labels vars
+  pub progress_early : (N : ℕ) → n ≤ N → goes_on c.finish ≡ false → ProgressTo r s (after r q N s) c labels vars
   progress_early N h z =
-      let d : c.rounds + (N - c.rounds) ≡ N = omega arith in
+      let d : n + (N - n) ≡ N = omega arith in
       let e : after r q N s ≡ here =
-      ap (λ (k : ℕ). after r q k s) (sym d) ∙ after_add r q c.rounds (N - c.rounds) s ∙ after-done r q (N - c.rounds) here (ap goes_on (sym w.finish) ∙ z) in
+      ap (λ (k : ℕ). after r q k s) (sym d) ∙ after_add r q n (N - n) s ∙ after-done r q (N - n) here (ap goes_on (sym w.finish) ∙ z) in
       rw e w

@@ -49,7 +49,7 @@ pub fn carry(
         block: spot.block,
         count: spot.count,
     };
-    while c.rounds < budget {
+    for n in 0..budget {
         if !goes_on(c.finish) {
             return c;
         }
@@ -57,7 +57,7 @@ pub fn carry(
         let finish = e.finish;
         c = Progress {
             finish,
-            rounds: c.rounds + 1,
+            rounds: n + 1,
             block: e.block,
             count: e.count,
         };
