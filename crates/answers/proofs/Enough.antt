@@ -8,7 +8,6 @@ use Rattle.definitions.specs.Plan.{longest_plan}
 use Rattle.definitions.specs.Calls.{to_compile, reply_in, bytes_in}
 use Rattle.definitions.specs.Refusals.{Reply}
 use Rattle.answers.specs.Answer.{no_batch, most_input, input_answer, file_answer, answer_to}
-use Rattle.std.specs.Prelude.{Ok, Err}
 
 -- ---- the input
 

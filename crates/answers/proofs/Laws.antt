@@ -8,22 +8,20 @@ use lib.Dec.{ltb}
 use borrow.Author.Tests.{ltb-false}
 use lib.IntN.{pos}
 use lib.ListN.{length, take, drop, get_or, replicate}
+use Rattle.std.specs.Prelude.{Ok, Err}
 use Rattle.std.proofs.lemmas.List.{drop-replicate, get_or-drop, take_all, length-drop}
 use Rattle.values.specs.Words.{constants_in}
 use Rattle.definitions.specs.Values.{Word}
 use Rattle.definitions.specs.Grammar.{Got, got, refused}
 use Rattle.definitions.specs.Plan.{planned, longest_plan}
 use Rattle.definitions.specs.Calls.{Batch, Ran, Wrote, run_reply, records_in, to_compile, reply_in}
+use Rattle.definitions.specs.Refusals.{Reply, refusal, number_of}
 use Rattle.definitions.specs.declared.Refusal.{Refusal}
-use Rattle.definitions.specs.Refusals.{Reply}
+use Rattle.definitions.specs.declared.Reason.{Reason}
+use Rattle.definitions.specs.declared.Reason.TheVariants.{NoRoom}
 use Rattle.rules.proofs.Promises.{done-bytes}
 use Rattle.printing.specs.Text.{words_text, line_text, lines_text, record_at, answer_text, refusal_text}
 use Rattle.answers.specs.Answer.{words_in, no_batch, batch_in, result_room, work_room, ran_answer, batch_answer, input_answer, file_answer, answer_to}
-use Rattle.std.specs.Prelude.{Ok, Err}
-use Rattle.definitions.specs.Refusals.{refusal}
-use Rattle.definitions.specs.declared.Reason.{Reason}
-use Rattle.definitions.specs.Refusals.{number_of}
-use Rattle.definitions.specs.declared.Reason.TheVariants.{NoRoom}
 
 -- ---- the values
 

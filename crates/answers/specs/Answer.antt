@@ -1,15 +1,13 @@
 -- 01, the program: what it prints, of the file's bytes and the input's bytes.
-use Rattle.std.specs.Prelude.{ℕ, zero, suc, ◌+◌, ◌-◌, ◌*◌, ◌/◌, ◌%◌, Bool, cond, not, ◌||◌, List, [], ◌∷◌, ◌++◌, eqb, ltb, length, take, get_or}
+use Rattle.std.specs.Prelude.{ℕ, zero, suc, ◌+◌, ◌-◌, ◌*◌, ◌/◌, ◌%◌, Bool, cond, not, ◌||◌, List, [], ◌∷◌, ◌++◌, eqb, ltb, length, take, get_or, Ok, Err}
 use Rattle.definitions.specs.Values.{Word}
 use Rattle.definitions.specs.Grammar.{word_of, constant_in, most_variables}
 use Rattle.definitions.specs.Plan.{planned, longest_plan}
 use Rattle.definitions.specs.Batch.{common, record_size, line_size}
 use Rattle.definitions.specs.Finder.{most_rows, most_quota, most_columns}
 use Rattle.definitions.specs.Calls.{Batch, to_compile, reply_in, bytes_in, run_reply, records_in}
-use Rattle.definitions.specs.Refusals.{Reply}
+use Rattle.definitions.specs.Refusals.{Reply, number_of}
 use Rattle.printing.specs.Text.{answer_text, refusal_text}
-use Rattle.std.specs.Prelude.{Ok, Err}
-use Rattle.definitions.specs.Refusals.{number_of}
 
 -- ---- the input: rows, budget and quota, then the values
 
