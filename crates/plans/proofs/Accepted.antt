@@ -7,6 +7,7 @@ use mathlib.Core.Logic.{◌↔◌}
 use native.Mathlib.Omega.{arith}
 use lib.Dec.{eqb, leb}
 use borrow.Author.Tests.{eqb-true, eq-eqb, leb-true, le-leb}
+use Rattle.std.specs.Cmp.Lexicographic.{pointwise}
 use Rattle.definitions.specs.Rule.{Rule}
 use Rattle.definitions.specs.Grammar.{Got, got, refused, rule_of, longest}
 use Rattle.definitions.specs.Plan.{plan_of, same, carried, as_plan, planned}
@@ -27,6 +28,14 @@ same-is (x ∷ xs) [] h = let z : ◌≡◌ {A = ℕ} 0 1 = cc in absurd (omega 
 same-is (x ∷ xs) (y ∷ ys) h =
     let p = and_parts (eqb x y) (same xs ys) h in
     ap₂ (λ a l. a ∷ l) (eqb-true x y p.0) (same-is xs ys p.1)
+
+-- it is what `==` tests
+pub same-pointwise : (xs ys : List ℕ) → same xs ys ≡ pointwise eqb xs ys
+unfolding same
+same-pointwise [] [] = refl
+same-pointwise [] (y ∷ ys) = refl
+same-pointwise (x ∷ xs) [] = refl
+same-pointwise (x ∷ xs) (y ∷ ys) = ap (λ b. eqb x y && b) (same-pointwise xs ys)
 
 -- ---- what an accepted plan is
 pub record Plan (p : List ℕ) (r : Rule) (n : ℕ) : Type 0 where

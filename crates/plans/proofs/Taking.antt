@@ -4,48 +4,38 @@ use mathlib.Core.Path.{◌≡◌, refl, sym, ap, ◌∙◌}
 use mathlib.Core.Bool.{Bool, true, false}
 use mathlib.Core.List.{List, ◌++◌}
 use native.Mathlib.Omega.{arith}
+use lib.Dec.{eqb}
 use lib.ListN.{length, take, drop, length-append, length-take, length-drop, drop_of_length-le}
 use lib.Seq.{take_at, take_all, length-take-le}
+use Rattle.std.specs.Cmp.Lexicographic.{pointwise}
 use Rattle.buffers.specs.Words.{over}
 use Rattle.buffers.proofs.Laws.{over-start, over-next}
 use Rattle.definitions.specs.Rule.{Rule, size}
-use Rattle.definitions.specs.Grammar.{Got, got, refused, read_of, rule_of, blocks_in, longest}
+use Rattle.definitions.specs.Grammar.{Got, got, refused, read_of, rule_of, longest}
 use Rattle.definitions.specs.Columns.{flow_of}
-use Rattle.definitions.specs.Plan.{plan_of, head_size, longest_plan, same, bodies_at, carried, planned}
+use Rattle.definitions.specs.Plan.{plan_of, same, bodies_at, carried, planned}
 use Rattle.definitions.specs.declared.Refusal.{Refusal}
 use Rattle.definitions.proofs.Tests.{clash}
 use Rattle.pages.proofs.Reading.{absurd_got}
 use Rattle.readers.proofs.Accepted.{rule-in}
 use Rattle.rules.proofs.FileLaws.{read-got, read-refused}
 use Rattle.rules.proofs.Uncycled.{rule-parsed}
-use Rattle.plans.specs.Laid.{IsRule, OrderFor, Ordering, size_for}
+use Rattle.plans.specs.Laid.{IsRule, OrderFor, size_for}
 use Rattle.plans.specs.Taken.{taken_of, Extracted, Taking}
 use Rattle.plans.proofs.Fields.{plan-length}
-use Rattle.plans.proofs.Accepted.{Plan, is-plan, same_refl, same-is}
-use Rattle.readers.proofs.Places.{rule_end, rule-header}
-use Rattle.plans.proofs.Ruling.{rule_has_block, ruled-plan}
+use Rattle.plans.proofs.Accepted.{Plan, is-plan, same_refl, same-is, same-pointwise}
+use Rattle.readers.proofs.Places.{rule_end}
+use Rattle.plans.proofs.Ruling.{rule_has_block, plan-sized}
 use Rattle.std.specs.Prelude.{Ok, Err}
 use Rattle.std.specs.Prelude.{Option, Some, None}
 
--- the size of the plan that is compiled again
-module _ {s : List ℕ} {count : ℕ} {bytes : List ℕ} (o : Ordering s count bytes) where
-  pub sized-is : {blocks total : ℕ} → total ≡ head_size blocks count + length s - 4 → blocks ≡ blocks_in s → total ≡ size_for s (length (take count bytes))
-  sized-is et eb = rw (length-take-le count bytes o.there, ← eb) et
-
-module _ (s : List ℕ) (w : IsRule s) {count : ℕ} {bytes : List ℕ} (o : Ordering s count bytes) where
-  pub compared-fits : size_for s (length (take count bytes)) ≤ longest_plan
-  compared-fits = ruled-plan s w _ (omega (arith, length-take-le count bytes o.there, o.few))
-
-  pub sized : {blocks total : ℕ} → total ≡ head_size blocks count + length s - 4 → blocks ≡ blocks_in s → total ≤ longest_plan
-  sized et eb = omega (arith, sized-is o et eb, compared-fits)
-
 -- a plan that was compiled into a longer buffer, compared at its own size
-pub compared : (s : List ℕ) (r : Rule) (m : ℕ) → rule_of s ≡ got r m → (order : List ℕ) → OrderFor s order → (p : List ℕ) (size : ℕ) → size ≡ size_for s (length order)
-    → (old new : List ℕ) → new ≡ over old 0 (plan_of r s) → {b : Bool} → b ≡ same (take size new) p → b ≡ same (plan_of r s) p
+pub compared : (s : List ℕ) (r : Rule) (m : ℕ) → rule_of s ≡ got r m → (order : List ℕ) → OrderFor s order → (p : List ℕ) (size : ℕ) → size ≡ size_for s order
+    → (old new : List ℕ) → new ≡ over old 0 (plan_of r s) → {b : Bool} → b ≡ pointwise eqb (take size new) p → b ≡ same (plan_of r s) p
 compared s r m e order o p size es old new w q =
-    let long : length (plan_of r s) ≡ size = plan-length (flow_of r) r s (rule-header s r m (rule-parsed s r m e)) ∙ rw ((rule-in s r m (rule-parsed s r m e)).blocks_are, ← o r m e) (sym es) in
+    let long : length (plan_of r s) ≡ size = plan-sized s r m e order o ∙ sym es in
     let part : take size new ≡ plan_of r s = rw (w, over-start old (plan_of r s)) (take_at (plan_of r s) _ size long) in
-    q ∙ ap (λ l. same l p) part
+    q ∙ sym (same-pointwise (take size new) p) ∙ ap (λ l. same l p) part
 
 same_refl' : {x y : List ℕ} → x ≡ y → same x y ≡ true
 same_refl' {y} e = rw e (same_refl y)
@@ -84,25 +74,28 @@ module _ (p : List ℕ) where
       short : length (carried p) ≤ 4
       short = rw (drop_of_length-le p {i = bodies_at p} (omega arith)) (simp (length-append, length-take) (omega arith))
 
-  module _ (h : 4 ≤ length p) (at : ℕ) (e : at ≡ bodies_at p) where
-    carried-length : length (carried p) ≡ length p - at + 4
-    carried-length = rw e (simp (length-append, length-take-le 4 p h, length-drop) (omega arith))
+  -- what stands from the offset on
+  pub rest : {at : ℕ} {bodies : List ℕ} → at ≡ bodies_at p → bodies ≡ take (length p - at) (drop at p) → bodies ≡ drop (bodies_at p) p
+  rest {at} e b = rw (b, take_all (length p - at) (drop at p) (omega (arith, length-drop at p)), e)
 
-    pub too_long : longest - 4 < length p - at → taken_of (planned p) ≡ None
+  module _ (h : 4 ≤ length p) {bodies : List ℕ} (are : bodies ≡ drop (bodies_at p) p) where
+    carried-length : length (carried p) ≡ 4 + length bodies
+    carried-length = rw are (simp (length-append, length-take-le 4 p h))
+
+    pub too_long : longest - 4 < length bodies → taken_of (planned p) ≡ None
     too_long l = not-plan (λ r n a. omega (arith, a.short, rule_end (carried p) r n (rule-parsed (carried p) r n a.rule), carried-length))
 
-    pub all_there : length p - at + 4 ≤ longest → (old : List ℕ) {d₁ d₂ : List ℕ} → longest ≤ length old
-        → d₁ ≡ over old 0 (take 4 p) → d₂ ≡ over d₁ 4 (take (length p - at) (drop at p)) → Extracted p (Some (length p - at + 4)) d₂
+    pub all_there : 4 + length bodies ≤ longest → (old : List ℕ) {d₁ d₂ : List ℕ} → longest ≤ length old
+        → d₁ ≡ over old 0 (take 4 p) → d₂ ≡ over d₁ 4 bodies → Extracted p (Some (4 + length bodies)) d₂
     all_there short old {d₂ = d₂} room e₁ e₂ =
         let four : length (take 4 p) ≡ 4 = length-take-le 4 p h in
-        let rest : take (length p - at) (drop at p) ≡ drop (bodies_at p) p = rw e (take_all (length p - bodies_at p) (drop (bodies_at p) p) (omega (arith, length-drop (bodies_at p) p))) in
         let all : d₂ ≡ carried p ++ drop (length (carried p)) old =
-        rw (e₂, rest, e₁) (over-next old 0 (take 4 p) 4 (drop (bodies_at p) p) (omega arith) (omega arith) ∙ over-start old (carried p)) in
+        rw (e₂, e₁, ← are) (over-next old 0 (take 4 p) 4 bodies (omega arith) (omega arith) ∙ over-start old (take 4 p ++ bodies)) in
         record {
           not = λ d. let z : ◌≡◌ {A = ℕ} 0 1 = cc in absurd (omega arith);
-          short = λ n d. let q : length p - at + 4 ≡ n = cc in omega arith;
-          size = λ n d. let q : length p - at + 4 ≡ n = cc in sym q ∙ sym carried-length;
-          bytes = λ n d. let q : length p - at + 4 ≡ n = cc in rw (all) (take_at (carried p) _ n (carried-length ∙ q));
+          short = λ n d. let q : 4 + length bodies ≡ n = cc in omega arith;
+          size = λ n d. let q : 4 + length bodies ≡ n = cc in sym q ∙ sym carried-length;
+          bytes = λ n d. let q : 4 + length bodies ≡ n = cc in rw (all) (take_at (carried p) _ n (carried-length ∙ q));
         }
 
 -- ---- what was carried, read
@@ -110,9 +103,6 @@ nothing : {p : List ℕ} {buffer : List ℕ} → taken_of (planned p) ≡ None �
 nothing e = record { answer = sym e; bytes = λ n f. let z : ◌≡◌ {A = ℕ} 0 1 = cc in absurd (omega arith) }
 
 module _ {p : List ℕ} {t : Option ℕ} {buffer : List ℕ} (c : Extracted p t buffer) where
-  pub taking_none : t ≡ None → Taking p None buffer
-  taking_none e = nothing (c.not e)
-
   module _ (n : ℕ) (carries : t ≡ Some n) where
     pub taken-length : length (take n buffer) ≡ n
     taken-length = ap length (c.bytes n carries) ∙ sym (c.size n carries)

@@ -1,14 +1,12 @@
 -- `plans::columns` meets its contract: the plan decides first, then the ones of its mask are counted.
 use Rattle.std.proofs.Common.{sym, ap, ◌∙◌, arith, Ok, Err}
-use Rattle.definitions.specs.Plan.{bit_of}
-use Rattle.definitions.specs.Batch.{count_to}
 use Rattle.definitions.specs.Calls.{columns_reply}
 use Rattle.definitions.proofs.Handed.{handed, ok_or-some, ok_or-none}
 use Rattle.plans.proofs.Carried.{accepted, refused-plan, carried-in, head-fits, at-variables, columns-counted}
 use Rattle.plans.proofs.columns.Goals as goal
 
-pub byte-variables-requires : goal.byte-variables-requires
-byte-variables-requires c =
+pub bounds-plan-1 : goal.bounds-plan-1
+bounds-plan-1 c =
     omega (arith, head-fits _ (accepted c.take.ensures _ (ok_or-some _ _ _ (sym c.ok_or.ensures.value ∙ c.in_ok-ok_or.was))))
 
 pub word_at-lc-requires : goal.word_at-lc-requires
@@ -18,7 +16,7 @@ word_at-lc-requires c =
 pub place-requires : goal.place-requires
 place-requires c =
     let a = accepted c.take.ensures _ (ok_or-some _ _ _ (sym c.ok_or.ensures.value ∙ c.in_ok-ok_or.was)) in
-    omega (arith, c.byte-variables.ensures.0, at-variables _ a, (carried-in _ a).variables-to)
+    omega (arith, at-variables _ a, (carried-in _ a).variables-to)
 
 pub returns-in_err-ok_or : goal.returns-in_err-ok_or
 unfolding columns_reply
@@ -30,5 +28,4 @@ pub returns : goal.returns
 unfolding columns_reply
 returns c =
     let a = accepted c.take.ensures _ (ok_or-some _ _ _ (sym c.ok_or.ensures.value ∙ c.in_ok-ok_or.was)) in
-    let n = c.place.ensures ∙ ap (λ v. count_to v (bit_of c.word_at-lc.result)) c.byte-variables.ensures.0 in
-    ap Ok (columns-counted _ a _ _ c.word_at-lc.ensures n) ∙ sym (ap columns_reply a.is)
+    ap Ok (columns-counted _ a _ _ c.word_at-lc.ensures c.place.ensures) ∙ sym (ap columns_reply a.is)

@@ -1,5 +1,5 @@
 -- `plans::bytes::put_entries` meets its contract. The loop's invariant: the entries before block `b` are written.
-use Prim.Native.Nat.{ℕ, ◌-◌, ◌≤◌}
+use Prim.Native.Nat.{ℕ}
 use mathlib.Core.Path.{◌≡◌}
 use mathlib.Core.List.{List}
 use lib.ListN.{length}
@@ -12,7 +12,4 @@ use Rattle.plans.proofs.bytes.put_entries.Given as goal
 
 abbrev pub invariant-loop-b : goal.invariant-loop-b
 invariant-loop-b l =
-    (l.b ≤ l.n) × (length l.out ≡ length l.initial.out) × ((r : Rule) (s : List ℕ) → Laid r s l.n l.head l.places l.inputs l.outputs l.j → l.out ≡ over l.initial.out 6 (entries_to (flow_of r) r s l.b))
-
-abbrev pub decreases-loop-b : goal.decreases-loop-b
-decreases-loop-b l = l.n - l.b
+    (length l.out ≡ length l.initial.out) × ((r : Rule) (s : List ℕ) → Laid r s l.n l.head l.places l.sets → l.out ≡ over l.initial.out 6 (entries_to (flow_of r) r s l.b))
