@@ -12,7 +12,7 @@ use lib.Signed.{mag}
 use lib.ListN.{length-append}
 use Rattle.definitions.specs.Values.{Word}
 use Rattle.definitions.specs.Batch.{record_size}
-use Rattle.printing.specs.Text.{decimal_in, decimal, space, newline, word_text, words_text, shown, record_at, line_text, lines_text}
+use Rattle.printing.specs.Text.{decimal_in, decimal, space, newline, word_text, words_text, shown, record_at, line_text, lines_text, answer_text, refusal_text}
 use Rattle.printing.specs.Writing.{Appends}
 use Rattle.printing.specs.declared.Writer.{Writer}
 
@@ -22,7 +22,7 @@ by-last_digit : AppendsLastDigit decimal_in
 unfolding decimal_in
 by-last_digit = record { one = λ k n h. rw (lt-ltb n 10 h) refl; more = λ k n h. rw (le-ltb n 10 h) refl }
 
-pub decimal-is : (n : ℕ) → n < 2 ^ 64 → std.decimal n ≡ decimal n
+decimal-is : (n : ℕ) → n < 2 ^ 64 → std.decimal n ≡ decimal n
 decimal-is n h = sym (decimal_from_appends decimal_in by-last_digit 20 n h (length-decimal-le 20 n (omega arith) (omega arith) h))
 
 word-is : (x : Word) → mag x < 2 ^ 63 → std.signed_decimal x ≡ word_text x
@@ -69,3 +69,13 @@ pub line-is : (q : ℕ) (result : List Word) (row : ℕ) {from : ℕ} {x : Word}
     → (std.decimal row ++ words_text result from words) ++ newline ≡ line_text q result row
 unfolding line_text
 line-is q result row lt ef h e ew = rw (decimal-is row lt, ew, h, e, ef) (append_assoc (decimal row) (words_text result (record_at q row) _) newline)
+
+-- ---- the whole texts, from what is put
+
+pub answer-is : (result : List Word) (rows q most : ℕ) → most < 2 ^ 64 → lines_text q result rows ++ ((114 ∷ 111 ∷ 117 ∷ 110 ∷ 100 ∷ 115 ∷ space) ++ (std.decimal most ++ newline)) ≡ answer_text result rows q most
+unfolding answer_text
+answer-is result rows q most h = rw (decimal-is most h) refl
+
+pub refusal-is : (number place : ℕ) → number < 2 ^ 64 → place < 2 ^ 64 → (114 ∷ 101 ∷ 102 ∷ 117 ∷ 115 ∷ 101 ∷ 100 ∷ space) ++ (std.decimal number ++ (space ++ (std.decimal place ++ newline))) ≡ refusal_text number place
+unfolding refusal_text
+refusal-is number place h k = rw (decimal-is number h, decimal-is place k) refl
