@@ -3,7 +3,7 @@ use Prim.Native.Nat.{ℕ, ◌*◌, ◌≤◌, ◌<◌}
 use mathlib.Core.Path.{◌≡◌, refl, sym, ap, ◌∙◌}
 use mathlib.Core.List.{List, ◌++◌}
 use native.Mathlib.Omega.{arith}
-use lib.ListN.{length, take, drop}
+use lib.ListN.{length, take, drop, length-take}
 use lib.Seq.{take-append_seam}
 use borrow.Author.Tests.{lt-ltb, le-ltb}
 use Rattle.buffers.specs.Words.{over}
@@ -12,14 +12,14 @@ use Rattle.definitions.specs.Grammar.{Got, got, refused, read_of, rule_of, longe
 use Rattle.definitions.specs.Pages.{page_size, pages_for, file_of, unpacked}
 use Rattle.definitions.specs.Calls.{to_read, to_write, reply_in, bytes_in, Wrote}
 use Rattle.definitions.specs.declared.Refusal.{Refusal}
-use Rattle.pages.specs.Answers.{scan_of}
+use Rattle.pages.specs.Answers.{scan_of, Fits}
 use Rattle.pages.proofs.Writing.{length-file}
-use Rattle.pages.proofs.Reading.{scan_got, scan_refused}
+use Rattle.pages.proofs.Reading.{scan_got, scan_refused, scan_fits}
 use Rattle.pages.proofs.Trip.{Bytes, read_write}
 use Rattle.rules.specs.Opened.{Opened}
 use Rattle.std.specs.Prelude.{Ok, Err}
 use Rattle.definitions.specs.declared.Reason.TheVariants.{TooLong, NoRoom}
-use Rattle.definitions.specs.Refusals.{refusal}
+use Rattle.definitions.specs.Refusals.{Reply, refusal}
 
 -- ---- what an answer says of what was read
 pub read-got : {A : Type 0} (g : Got A) (n : ℕ) → read_of g ≡ Ok n → (a : A) × (g ≡ got a n)
@@ -46,7 +46,7 @@ module _ (file : List ℕ) where
   opened_not w buffer e = opened_no w buffer (rw (scan_refused (unpacked file) w e))
 
   module _ (n : ℕ) (scanned : scan_of (unpacked file) ≡ Ok n) where
-    pub scan-short : Bytes file → n ≤ longest
+    scan-short : Bytes file → n ≤ longest
     scan-short b =
         let g = scan_got (unpacked file) n scanned in
         omega (arith, g.1, (read_write file _ _ b g.0).most)
@@ -72,6 +72,16 @@ module _ (file : List ℕ) where
             short = λ k d. let q : n ≡ k = cc in omega (arith, scan-short b);
             bytes = λ k d. let q : n ≡ k = cc in rw (← q, good m e);
           }
+
+-- what was found is no longer than a rule may be, and fits where a rule does
+module _ (file : List ℕ) {r : Reply} (q : r ≡ scan_of (unpacked file)) (n : ℕ) (e : r ≡ Ok n) (b : Bytes file) where
+  pub scanned-short : n ≤ longest
+  scanned-short = scan-short file n (sym q ∙ e) b
+
+  pub scanned-fits : (room : ℕ) → longest ≤ room → Fits (unpacked file) room
+  scanned-fits room h = scan_fits (unpacked file) n room (sym q ∙ e) (omega (arith, scanned-short))
+
+pub ruleset of_scan = (scanned-short, scanned-fits, length-take)
 
 -- ---- the bytes that were found, into the caller's buffer
 module _ (what : Got (List ℕ)) (old : List ℕ) where

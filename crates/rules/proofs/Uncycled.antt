@@ -21,7 +21,7 @@ use Rattle.definitions.proofs.Cycled.{cycle-none, cycle-lowest, cycle-free}
 use Rattle.definitions.proofs.Ordered.{Rises, rises_no_cycle}
 use Rattle.std.specs.Prelude.{Ok, Err}
 use Rattle.definitions.specs.declared.Reason.TheVariants.{GotoCycle}
-use Rattle.definitions.specs.Refusals.{refusal}
+use Rattle.definitions.specs.Refusals.{Reply, refusal}
 use Rattle.definitions.specs.declared.Reason.{Reason}
 
 -- ---- the gotos of two tables that agree on the blocks
@@ -93,19 +93,22 @@ rule-cycled s r n b e l = rw e (cycled r n b l)
 
 -- ---- what the code finds
 module _ (s : List ℕ) where
-  pub tell_refused : (w : Refusal) → read_of (parsed s) ≡ Err w → Err w ≡ read_of (rule_of s)
+  pub tell_refused : {r : Reply} → r ≡ read_of (parsed s) → (w : Refusal) → r ≡ Err w → Err w ≡ read_of (rule_of s)
   unfolding rule_of read_of
-  tell_refused w e = let q = read-refused (parsed s) w e in rw q
+  tell_refused q w e = let q = read-refused (parsed s) w (sym q ∙ e) in rw q
 
-  module _ (m : ℕ) (e : read_of (parsed s) ≡ Ok m) (short : length s ≤ longest) where
+  module _ {r : Reply} (q : r ≡ read_of (parsed s)) (m : ℕ) (e : r ≡ Ok m) (short : length s ≤ longest) where
     is : (r : Rule) × (parsed s ≡ got r m)
-    is = read-got (parsed s) m e
+    is = read-got (parsed s) m (sym q ∙ e)
 
     pub tell-ruled : Ruled s
     tell-ruled = record { rule = is.0; end = m; is = is.1; short = short }
 
-    pub tell-header : (4 ≤ length s) × (get_or s 3 0 ≤ 64)
-    tell-header = (rule-header s is.0 m is.1, let i = rule-in s is.0 m is.1 in omega (arith, i.blocks_are, i.blocks_to))
+    pub tell-header : 4 ≤ length s
+    tell-header = rule-header s is.0 m is.1
+
+    pub tell-blocks : get_or s 3 0 ≤ 64
+    tell-blocks = let i = rule-in s is.0 m is.1 in omega (arith, i.blocks_are, i.blocks_to)
 
     module _ (gotos : List Bool) (told : (r : Rule) (m : ℕ) → parsed s ≡ got r m → (b t : ℕ) → b < size r → t < size r → edge_in gotos b t ≡ goto_in r b t) where
       count : get_or s 3 0 ≡ size is.0
@@ -118,3 +121,6 @@ module _ (s : List ℕ) where
       pub tell-at : (b : ℕ) → LowestOnCycle (get_or s 3 0) (edge_in gotos) b → refusal GotoCycle b ≡ read_of (rule_of s)
       unfolding read_of rule_of
       tell-at b h = rw is.1 (rw (cycled is.0 m b (lowest_as (size is.0) (edge_in gotos) (goto_in is.0) (told is.0 m is.1) b (rw count at h))))
+
+-- what holds of bytes that are read
+pub ruleset of_tree = (tell-ruled, tell-header, tell-blocks)

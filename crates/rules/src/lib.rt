@@ -9,6 +9,7 @@ ghost use Rattle.rules.specs.Opened.{Opened};
 use definitions::{LONGEST, Reason, Refusal};
 
 // Whether the bytes are a rule: read to their end, with no cycle of gotos.
+#[tactic(auto, using(crate::proofs::Uncycled::of_tree))]
 pub fn read_rule(s: &[u8]) -> Result<usize, Refusal>
     requires { length s.now ≤ longest }
     ensures { result ≡ read_of (rule_of s.now) }
@@ -23,6 +24,7 @@ pub fn read_rule(s: &[u8]) -> Result<usize, Refusal>
 }
 
 // The rule in a file, at the start of a buffer that any rule fits in: its length, or why there is none.
+#[tactic(auto, using(crate::proofs::FileLaws::of_scan))]
 pub fn open(file: &[u8], rule: &mut [u8]) -> Result<usize, Refusal>
     requires { longest ≤ length rule.old }
     ensures { Opened (to_read file.now) result rule.new }
