@@ -3,13 +3,13 @@ use Prim.Native.Nat.{ℕ, zero, suc, ◌+◌, ◌-◌, ◌<◌, ◌≤◌}
 use native.Mathlib.Numerals.{sub-one}
 use native.Mathlib.Omega.{arith}
 use native.Mathlib.Decide.{dec_lt}
-use mathlib.Core.Path.{◌≡◌, refl, sym, ap, ◌∙◌}
+use mathlib.Core.Path.{◌≡◌, sym, ◌∙◌}
 use mathlib.Core.Bool.{Bool, true, false}
 use mathlib.Core.List.{List}
 use lib.ListN.{length, get_or}
 use Rattle.definitions.specs.Values.{Word, values_in, value}
 use Rattle.definitions.specs.Rule.{Cond, End, Goto, Jump, Stop, If}
-use Rattle.definitions.specs.Grammar.{got, refused, two, target_at, depth, levels, cond_at, end_at, end_body, end_tag}
+use Rattle.definitions.specs.Grammar.{got, refused, two, target_at, depth, cond_at, end_at, end_body, end_tag}
 use Rattle.definitions.specs.Spelling.{cond_size, end_size}
 use Rattle.definitions.specs.Meaning.{at_byte, holds}
 use Rattle.definitions.specs.Direct.{exit}
@@ -17,7 +17,7 @@ use Rattle.definitions.specs.declared.Flaw.{Flaw}
 use Rattle.evaluators.specs.Skip.{past}
 use Rattle.evaluators.specs.Answer.{Readable, holding}
 use Rattle.rounds.specs.Run.{EndHere, leading_of}
-use Rattle.std.specs.Prelude.{Ok, Err}
+use Rattle.std.specs.Prelude.{Result, Ok, Err}
 use Rattle.rounds.specs.declared.blocks.Leading.{Leading}
 use Rattle.evaluators.proofs.Tags.{end-bad}
 use Rattle.evaluators.proofs.Reading.{no_got, then-got, one-got, two-got, byte-got, target_got}
@@ -79,14 +79,14 @@ module _ (left v : ℕ) (s : List ℕ) (at : ℕ) (h : EndHere left v s at) wher
   unfolding exit
   stop_answer env e = let w = end_as 0x32 e in let q : h.ending ≡ Stop = cc in rw q
 
-  -- a stop: no other tag is left
-  pub stop_tag_lem : (get_or s at 0 ≡ 0x30 → ⊥) → (get_or s at 0 ≡ 0x31 → ⊥) → (get_or s at 0 ≡ 0x33 → ⊥) → get_or s at 0 ≡ 0x32
-  stop_tag_lem a b c = go (dec_lt (get_or s at 0) 0x30) (dec_lt 0x33 (get_or s at 0))
+  -- an if: no other tag is left
+  pub if_tag_lem : (get_or s at 0 ≡ 0x30 → ⊥) → (get_or s at 0 ≡ 0x31 → ⊥) → (get_or s at 0 ≡ 0x32 → ⊥) → get_or s at 0 ≡ 0x33
+  if_tag_lem a b c = go (dec_lt (get_or s at 0) 0x30) (dec_lt 0x33 (get_or s at 0))
     where
       bad : (0x30 ≤ get_or s at 0 → get_or s at 0 ≤ 0x33 → ⊥) → ⊥
       bad out = no_got BadTag at h.ending h.next (rw (end-bad (get_or s at 0) out) at end_is)
 
-      go : Dec (get_or s at 0 < 0x30) → Dec (0x33 < get_or s at 0) → get_or s at 0 ≡ 0x32
+      go : Dec (get_or s at 0 < 0x30) → Dec (0x33 < get_or s at 0) → get_or s at 0 ≡ 0x33
       go (yes l) r = absurd (bad (λ x y. omega arith))
       go (no l) (yes r) = absurd (bad (λ x y. omega arith))
       go (no l) (no r) = omega arith
@@ -152,33 +152,10 @@ module _ (left v : ℕ) (s : List ℕ) (at : ℕ) (h : EndHere left v s at) wher
           let p = past_one s (λ m. end_at (left - 1) h.targets v s m) (end-past (left - 1) h.targets v s) n parts.first parts.k if-first.reads in
           omega (arith, p, first-at, end-size (left - 1) h.targets v s n parts.first parts.k if-first.reads)
 
-      pub if-true : b ≡ true → exit if-first.ending (at_byte n) (values_in env) ≡ exit h.ending (at_byte at) (values_in env)
+      pub if-true : (r : Result Leading Flaw) → b ≡ true → ((g : EndHere (left - 1) v s n) → r ≡ leading_of (exit g.ending (at_byte n) (values_in env))) → r ≡ leading_of (exit h.ending (at_byte at) (values_in env))
       unfolding exit if-first
-      if-true t =
-          let taken : exit (If parts.test parts.first parts.second) (at_byte at) (values_in env) ≡ exit parts.first (at_byte n) (values_in env) = rw (held.1, t, first-at) in
-          sym (ap (λ (x : End). exit x (at_byte at) (values_in env)) parts.is ∙ taken)
+      if-true r t q = rw (parts.is, held.1, t, first-at) (q if-first)
 
-      pub if-false : b ≡ false → exit if-second.ending (at_byte (past 1 s n)) (values_in env) ≡ exit h.ending (at_byte at) (values_in env)
+      pub if-false : (r : Result Leading Flaw) → b ≡ false → ((g : EndHere (left - 1) v s (past 1 s n)) → r ≡ leading_of (exit g.ending (at_byte (past 1 s n)) (values_in env))) → r ≡ leading_of (exit h.ending (at_byte at) (values_in env))
       unfolding exit if-second
-      if-false t =
-          let taken : exit (If parts.test parts.first parts.second) (at_byte at) (values_in env) ≡ exit parts.second (at_byte (past 1 s n)) (values_in env) = rw (held.1, t, second_at) in
-          sym (ap (λ (x : End). exit x (at_byte at) (values_in env)) parts.is ∙ taken)
-
--- on the way: the ending that stands here leads where the whole leads
-pub record Within (v : ℕ) (s : List ℕ) (at : ℕ) (env : List Word) (h : EndHere levels v s at) (i : ℕ) : Type 0 where
-  pub left : ℕ
-  pub here : EndHere left v s i
-  pub leads : exit here.ending (at_byte i) (values_in env) ≡ exit h.ending (at_byte at) (values_in env)
-
-pub begun : {v : ℕ} {s : List ℕ} {at : ℕ} {env : List Word} (h : EndHere levels v s at) → Within v s at env h at
-begun h = record { left = levels; here = h; leads = refl }
-
-module _ {v : ℕ} {s : List ℕ} {at : ℕ} {env : List Word} {h : EndHere levels v s at} {i : ℕ} (w : Within v s at env h i) (tag : get_or s i 0 ≡ 0x33) {b : Bool} {n : ℕ}
-    (e : holding (cond_at depth v s (i + 1)) (i + 1) env ≡ Ok (b, n)) where
-  pub onward : b ≡ true → (i < n) × Within v s at env h n
-  onward t =
-      (omega (arith, first-at w.left v s i w.here tag env b n e), record { left = w.left - 1; here = if-first w.left v s i w.here tag env b n e; leads = if-true w.left v s i w.here tag env b n e t ∙ w.leads })
-
-  pub onward-past : b ≡ false → (i < past 1 s n) × Within v s at env h (past 1 s n)
-  onward-past t =
-      (omega (arith, second_at w.left v s i w.here tag env b n e), record { left = w.left - 1; here = if-second w.left v s i w.here tag env b n e; leads = if-false w.left v s i w.here tag env b n e t ∙ w.leads })
+      if-false r t q = rw (parts.is, held.1, t, second_at) (q if-second)

@@ -1,15 +1,14 @@
 // A block of a rule, run from the rule's bytes: its statements, its ending, its columns.
-ghost use Rattle.std.specs.Prelude.{◌≡◌, ◌≤◌, length};
+ghost use Rattle.std.specs.Prelude.{◌≡◌, ◌≤◌, length, get_or};
 ghost use Rattle.definitions.specs.Values.{values_in};
 ghost use Rattle.definitions.specs.Plan.{bit_of};
-ghost use Rattle.definitions.specs.Grammar.{levels};
 ghost use Rattle.definitions.specs.Meaning.{at_byte};
 ghost use Rattle.definitions.specs.Direct.{exit};
 ghost use Rattle.columns.specs.OnPlan.{kept};
 ghost use Rattle.evaluators.specs.Answer.{Sized};
 ghost use Rattle.rounds.specs.Run.{EndHere, leading_of, StmtHere, StmtRun, BlockHere, BodyRun, BlockRun};
 
-use definitions::{DEPTH, Finish, Flaw, faulted, quota_full};
+use definitions::{DEPTH, Finish, Flaw, LEVELS, faulted, quota_full};
 use evaluators::tokens::skip;
 use evaluators::{Rule, Vars, eval_cond, eval_expr};
 
@@ -23,21 +22,34 @@ pub enum Leading {
     Stop,
 }
 
-pub fn run_end(s: &Rule, at: usize, v: u8, vars: &Vars) -> Result<Leading, Flaw>
-    requires { Sized v s.now × EndHere levels v s.now at }
-    ensures { (h : EndHere levels v s.now at) → result ≡ leading_of (exit h.ending (at_byte at) (values_in vars.now)) }
+// Most endings are no if: these are run in place, with no call.
+#[cycle(endings)]
+#[inline(always)]
+pub fn run_end(s: &Rule, at: usize, v: u8, left: u8, vars: &Vars) -> Result<Leading, Flaw>
+    requires { Sized v s.now × EndHere left v s.now at }
+    ensures { (h : EndHere left v s.now at) → result ≡ leading_of (exit h.ending (at_byte at) (values_in vars.now)) }
 {
-    let mut i = at;
-    while s[i] == 0x33 {
-        let (h, n) = eval_cond(s, i + 1, v, DEPTH, vars)?;
-        i = if h { n } else { skip(s, n) };
+    match s[at] {
+        0x30 => Ok(Leading::Goto(s[at + 1])),
+        0x31 => Ok(Leading::Jump(s[at + 1])),
+        0x32 => Ok(Leading::Stop),
+        // 33: nothing else can stand here
+        _ => run_if(s, at, v, left, vars),
     }
-    match s[i] {
-        0x30 => Ok(Leading::Goto(s[i + 1])),
-        0x31 => Ok(Leading::Jump(s[i + 1])),
-        // 32: nothing else can stand here
-        _ => Ok(Leading::Stop),
-    }
+}
+
+// An ending that is an if: its condition picks one of two, each with a level less left.
+#[cycle(endings)]
+fn run_if(s: &Rule, at: usize, v: u8, left: u8, vars: &Vars) -> Result<Leading, Flaw>
+    requires sized { Sized v s.now × EndHere left v s.now at }
+    requires an_if { get_or s.now at 0 ≡ 0x33 }
+    ensures { (h : EndHere left v s.now at) → result ≡ leading_of (exit h.ending (at_byte at) (values_in vars.now)) }
+{
+    let (h, n) = eval_cond(s, at + 1, v, DEPTH, vars)?;
+    let place = if h { n } else { skip(s, n) };
+    // taken apart, for speed: copied whole, the answer would wait for the byte that was just written into it
+    let way = run_end(s, place, v, left - 1, vars)?;
+    Ok(way)
 }
 
 // ---- statements
@@ -135,7 +147,7 @@ pub fn run_block(
 {
     keep(vars, v, e.inputs);
     let place = run_body(s, e.place, v, quota, vars, labels, count)?;
-    let way = run_end(s, place, v, vars).map_err(faulted)?;
+    let way = run_end(s, place, v, LEVELS, vars).map_err(faulted)?;
     keep(vars, v, e.outputs);
     Ok(way)
 }
