@@ -22,7 +22,7 @@ use Rattle.rules.proofs.Spelling.{row_tells}
 use Rattle.plans.specs.Promised.{rule_in_file, PlanFor}
 use Rattle.plans.proofs.Files.{rule-held}
 use Rattle.plans.proofs.Promises.{compiled, written-compiled}
-use Rattle.batches.specs.DirectRun.{DirectRun, RunsAs, finish_in}
+use Rattle.batches.specs.DirectRun.{DirectRun, RunsAs, status_in, place_in}
 use Rattle.batches.proofs.Promises.{direct, record_at}
 use Rattle.std.specs.Prelude.{Ok, Err}
 use Rattle.definitions.specs.declared.Reason.TheVariants.{NoRoom, Misfit, OverLimit, NotPlan}
@@ -97,7 +97,7 @@ rule-to-record s old n file w old' m plan c = runs (written-compiled s old n fil
 
 module _ (s : List ℕ) (small : Bytes s) (read : Got Rule) (held : read ≡ rule_of s) (plan : List ℕ) (runs_as : RunsAs read plan) where
   row_told : (b : Batch) (out work : List Word) (most : ℕ) (out' work' : List Word) → b.plan ≡ plan → Ran b out work (Ok most) out' work'
-      → (k : ℕ) → k < b.rows → Tells (Among 0 s) (finish_in (record_at b.quota k out'))
+      → (k : ℕ) → k < b.rows → Tells (Among 0 s) (status_in (record_at b.quota k out')) (place_in (record_at b.quota k out'))
   row_told b out work most out' work' e ran k h =
       let p = runs_as.plan_for in
       rw ((runs_as.direct_run b out work (Ok most) out' work' e ran).row most k refl h) (row_tells s small p.rule p.end (sym held ∙ p.is) b.quota (budget_of b.budgets k) (values_in (take p.rule.arguments (drop (k * p.rule.arguments) b.values))))
@@ -106,11 +106,11 @@ pub rule_told :
     (s old : List ℕ) (n : ℕ) (file : List ℕ) → Bytes s → Wrote (to_write s) old (Ok n) file →
     (old' : List ℕ) (m : ℕ) (plan : List ℕ) → Wrote (to_compile (take n file)) old' (Ok m) plan →
     (b : Batch) (out work : List Word) (most : ℕ) (out' work' : List Word) → b.plan ≡ take m plan → Ran b out work (Ok most) out' work' →
-    (k : ℕ) → k < b.rows → Tells (Among 0 s) (finish_in (record_at b.quota k out'))
+    (k : ℕ) → k < b.rows → Tells (Among 0 s) (status_in (record_at b.quota k out')) (place_in (record_at b.quota k out'))
 rule_told s old n file small w old' m plan c = row_told s small (rule_of s) refl (take m plan) (rule-to-record s old n file w old' m plan c)
 
 pub file-told :
     (file s : List ℕ) (m : ℕ) → Bytes file → unpacked file ≡ got s m → (old : List ℕ) (n : ℕ) (new : List ℕ) → Wrote (to_compile file) old (Ok n) new →
     (b : Batch) (out work : List Word) (most : ℕ) (out' work' : List Word) → b.plan ≡ take n new → Ran b out work (Ok most) out' work' →
-    (k : ℕ) → k < b.rows → Tells (Among 0 s) (finish_in (record_at b.quota k out'))
+    (k : ℕ) → k < b.rows → Tells (Among 0 s) (status_in (record_at b.quota k out')) (place_in (record_at b.quota k out'))
 file-told file s m small e old n new w = row_told s (read_write file s m small e).bytes (rule_in_file file) (rule-held file s m e) (take n new) (file_to_record file old n new w)

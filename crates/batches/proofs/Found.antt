@@ -28,6 +28,8 @@ use Rattle.batches.proofs.Promises.{Called, record_at, rounds_of, direct}
 use Rattle.batches.proofs.Exactly.{run_exactly, done-within}
 use Rattle.batches.proofs.Searches.{address_of, its-line}
 use Rattle.std.specs.Prelude.{Ok}
+use Rattle.definitions.specs.Direct.{status_number}
+use Rattle.definitions.proofs.Ends.{zero-is}
 
 -- ---- the promises
 
@@ -54,7 +56,7 @@ module _ (plan : List ℕ) (r : Rule) (n : ℕ) (accepted : planned plan ≡ got
     record-words : record_at q k a.result.now ≡ record_of q its
     record-words = direct plan r n accepted args q N k a.result.now a.called
 
-    status-word : get_or a.result.now (k * record_size q) (pos 0) ≡ pos its.finish.status
+    status-word : get_or a.result.now (k * record_size q) (pos 0) ≡ pos (status_number its.finish)
     status-word =
         let e : k * record_size q + 0 ≡ k * record_size q = omega arith in
         rw (← e) (part_get a.result.now (record_of q its) (k * record_size q) (record_size q) 0 (pos 0) record-words (omega arith))
@@ -72,7 +74,7 @@ module _ (plan : List ℕ) (r : Rule) (n : ℕ) (accepted : planned plan ≡ got
     pub ended-found : goes_on its.finish ≡ false → found_for a ≡ (address_of a.result (k * record_size q), record_of q its)
     unfolding is_number
     ended-found z =
-        sym (found_record a.result a.work batch.rows q (columns r) k inside (ap (λ (x : Word). is_number x 0) status-word ∙ z))
+        sym (found_record a.result a.work batch.rows q (columns r) k inside (ap (λ (x : Word). is_number x 0) status-word ∙ zero-is its.finish ∙ z))
         ∙ ap (λ (x : List Word). (address_of a.result (k * record_size q), x)) record-words
 
     -- how many rows before it are unfinished
@@ -85,7 +87,7 @@ module _ (plan : List ℕ) (r : Rule) (n : ℕ) (accepted : planned plan ≡ got
     unfinished-found z =
         let c = a.called in
         let w = sym (rw (ap planned c.plan' ∙ accepted) at c.ran.working) ∙ a.table in
-        sym (found-line a.result a.work batch.rows q (columns r) k inside (ap (λ (x : Word). is_number x 0) status-word ∙ z))
+        sym (found-line a.result a.work batch.rows q (columns r) k inside (ap (λ (x : Word). is_number x 0) status-word ∙ zero-is its.finish ∙ z))
         ∙ its-line r batch.values args batch.rows batch.budgets batch.quota N q k a.work _ (sym (append_assoc (lines_in r 0 (states_of r batch.values batch.rows batch.budgets batch.quota)) _ _) ∙ w) c.budget c.quota c.args' c.within z
 
     -- a line's third word is its record's second

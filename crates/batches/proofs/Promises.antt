@@ -29,6 +29,7 @@ use Rattle.tables.proofs.Starts.{starts-length}
 use Rattle.tables.proofs.Runs.{records-size}
 use Rattle.batches.proofs.Accepted.{is-proper}
 use Rattle.std.specs.Prelude.{Ok, Err}
+use Rattle.definitions.proofs.Ends.{zero-goes, nonzero-ended}
 
 -- ---- every call
 
@@ -133,7 +134,7 @@ module _ (plan : List ℕ) (r : Rule) (n : ℕ) (accepted : planned plan ≡ got
   pub spent : (N k : ℕ) (results : List Word) → Called plan r args N q k results → status_of (record_at q k results) ≡ pos 0 → rounds_of (record_at q k results) ≡ pos N
   spent N k results c z =
       let e = direct N k results c in
-      let on : goes_on (after r q N (start r args)).finish ≡ true = eq-eqb (after r q N (start r args)).finish.status 0 (ap nat_abs (sym (ap status_of e) ∙ z)) in
+      let on : goes_on (after r q N (start r args)).finish ≡ true = zero-goes (after r q N (start r args)).finish (ap nat_abs (sym (ap status_of e) ∙ z)) in
       let all : (start r args).begun + N ≡ N = omega arith in
       ap rounds_of e ∙ ap pos (after-begun r q N (start r args) on ∙ all)
 
@@ -155,7 +156,7 @@ module _ (plan : List ℕ) (r : Rule) (n : ℕ) (accepted : planned plan ≡ got
     -- once the row has ended, the two records are the same in every word
     pub same-record : (status_of (record_at q k results) ≡ pos 0 → ⊥) → record_at q k results ≡ record_at q k' results'
     same-record z =
-        let g : goes_on (after r q N s).finish ≡ false = ne_eqb (after r q N s).finish.status 0 (λ w. z (ap status_of (direct N k results c) ∙ ap pos w)) in
+        let g : goes_on (after r q N s).finish ≡ false = nonzero-ended (after r q N s).finish (λ w. z (ap status_of (direct N k results c) ∙ ap pos w)) in
         let e : after r q M s ≡ after r q N s = later ∙ after-done r q (M - N) (after r q N s) g in
         direct N k results c ∙ ap (record_of q) (sym e) ∙ sym (direct M k' results' c')
 

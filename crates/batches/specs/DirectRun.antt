@@ -7,7 +7,6 @@ use Rattle.definitions.specs.Columns.{flow_of, LC}
 use Rattle.definitions.specs.Direct.{after}
 use Rattle.definitions.specs.Batch.{budget_of, start_at, record_size, record_of, records_of, table_of}
 use Rattle.definitions.specs.Calls.{Batch, left, rows_of, ran_reply, Ran}
-use Rattle.definitions.specs.declared.Finish.{Finish}
 use Rattle.definitions.specs.Refusals.{Reply}
 use Rattle.plans.specs.Promised.{PlanFor}
 use Rattle.std.specs.Prelude.{Ok}
@@ -30,5 +29,8 @@ pub record RunsAs (read : Got Rule) (plan : List ℕ) : Type 0 where
   pub direct_run : (b : Batch) (out work : List Word) (reply : Reply) (out' work' : List Word) → b.plan ≡ plan → Ran b out work reply out' work' → DirectRun plan_for.rule b out work reply out' work'
 
 -- 02, K4: how a row ended, by the words of its record
-abbrev pub finish_in : List Word → Finish
-finish_in words = record { status = nat_abs (get_or words 0 (pos 0)); place = nat_abs (get_or words 3 (pos 0)) }
+abbrev pub status_in : List Word → ℕ
+status_in words = nat_abs (get_or words 0 (pos 0))
+
+abbrev pub place_in : List Word → ℕ
+place_in words = nat_abs (get_or words 3 (pos 0))

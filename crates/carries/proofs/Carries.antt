@@ -12,7 +12,7 @@ use Rattle.definitions.specs.Values.{Word, Val, values_in}
 use Rattle.definitions.specs.declared.Finish.{Finish}
 use Rattle.definitions.specs.Rule.{Rule, size}
 use Rattle.definitions.specs.Columns.{flow_of, inputs_of, LC}
-use Rattle.definitions.specs.Direct.{State, Round, jumped, finished, joined, after_from, after, unfinished, goes_on}
+use Rattle.definitions.specs.Direct.{State, Round, jumped, finished, joined, after_from, after, goes_on}
 use Rattle.definitions.proofs.Values.{values_length}
 use Rattle.definitions.proofs.Columns.{shared}
 use Rattle.columns.specs.OnPlan.{plan_walk}
@@ -27,6 +27,8 @@ use Rattle.rounds.specs.Round.{ended_as}
 use Rattle.rounds.specs.declared.RoundEnd.{RoundEnd}
 use Rattle.carries.specs.Carry.{InHand, ProgressTo}
 use Rattle.carries.specs.declared.Progress.{Progress}
+use Rattle.definitions.specs.declared.Finish.TheVariants.{Unfinished}
+use Rattle.definitions.proofs.Ends.{no-both}
 
 -- what a round's answer says of the state that it leads to
 record Gone (r : Rule) (s s' : State) (how : Finish) (block : ℕ) (labels vars : List Val) : Type 0 where
@@ -36,7 +38,7 @@ record Gone (r : Rule) (s s' : State) (how : Finish) (block : ℕ) (labels vars 
   block' : goes_on s'.finish ≡ true → block ≡ s'.block
   vars' : goes_on s'.finish ≡ true → Alike r.variables (LC (flow_of r)) s'.vars vars
 
-gone : (r : Rule) (s : State) (R P : Round) → Rounds r R P → (how : Finish) (b : ℕ) (ls vars : List Val) → ended_as how b ls vars ≡ P → (goes_on how ≡ true → how ≡ unfinished) → Gone r s (joined s R) how b ls vars
+gone : (r : Rule) (s : State) (R P : Round) → Rounds r R P → (how : Finish) (b : ℕ) (ls vars : List Val) → ended_as how b ls vars ≡ P → (goes_on how ≡ true → how ≡ Unfinished) → Gone r s (joined s R) how b ls vars
 unfolding ended_as
 gone r s R P (both-jumped t x y ms p p' m j w) how b ls vars e u = go (goes_on how) refl
   where
@@ -62,11 +64,11 @@ gone r s R P (both-finished t ms p p') how b ls vars e u = go (goes_on how) refl
         let k : finished how ls ≡ finished t ms = rw z at (e ∙ p') in
         let et : how ≡ t = cc in
         let el : ls ≡ ms = cc in
-        rw p record { finish' = et; begun = refl; labels' = el; block' = λ h. absurd (eqb-false how.status 0 z (ap (λ (d : Finish). d.status) et ∙ eqb-true t.status 0 h)); vars' = λ h. absurd (eqb-false how.status 0 z (ap (λ (d : Finish). d.status) et ∙ eqb-true t.status 0 h)) }
+        rw p record { finish' = et; begun = refl; labels' = el; block' = λ h. no-both how (ap goes_on et ∙ h) z; vars' = λ h. no-both how (ap goes_on et ∙ h) z }
 
 -- before the first round
 pub progress_none : (r : Rule) (q block count : ℕ) (labels vars : List Word) (k : InHand r q block (take count labels) vars) → count ≤ length labels
-    → ProgressTo r k.state (after r q 0 k.state) (record { finish = unfinished; rounds = 0; block = block; count = count }) labels vars
+    → ProgressTo r k.state (after r q 0 k.state) (record { finish = Unfinished; rounds = 0; block = block; count = count }) labels vars
 unfolding after_from
 progress_none r q block count labels vars k h = record {
   finish = sym (k.sound.unended k.going);
@@ -104,7 +106,7 @@ module _ {r : Rule} {q : ℕ} {s : State} {labels vars : List Word} (ok : Proper
     same-round = rw (w.block going, w.labels')
 
     -- one round more
-    pub progress-next : c.rounds ≡ n → (e : RoundEnd) (labels' vars' : List Word) → ended_as e.finish e.block (values_in (take e.count labels')) (values_in vars') ≡ plan_walk (size r) r q c.block (values_in vars) (values_in (take c.count labels)) → (goes_on e.finish ≡ true → e.finish ≡ unfinished) → e.count ≤ length labels'
+    pub progress-next : c.rounds ≡ n → (e : RoundEnd) (labels' vars' : List Word) → ended_as e.finish e.block (values_in (take e.count labels')) (values_in vars') ≡ plan_walk (size r) r q c.block (values_in vars) (values_in (take c.count labels)) → (goes_on e.finish ≡ true → e.finish ≡ Unfinished) → e.count ≤ length labels'
         → ProgressTo r s (after r q (n + 1) s) (record { finish = e.finish; rounds = n + 1; block = e.block; count = e.count }) labels' vars'
     unfolding after_from
     progress-next k e labels' vars' walked u h =

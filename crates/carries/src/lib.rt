@@ -7,7 +7,7 @@ ghost use Rattle.columns.specs.Proper.{Proper};
 ghost use Rattle.plans.specs.Accepted.{rule_in};
 ghost use Rattle.carries.specs.Carry.{Running, InHand, ProgressTo};
 
-use definitions::{Finish, VARIABLES, goes_on, unfinished};
+use definitions::{Finish, VARIABLES};
 use rounds::Rule;
 
 // Where a row stands: its next block, and how many labels it has.
@@ -42,15 +42,14 @@ pub fn carry(
     ensures { (k : InHand (rule_in plan.now) quota spot.block (take spot.count labels.old) vars.old)
         → ProgressTo (rule_in plan.now) k.state (after (rule_in plan.now) quota budget k.state) result labels.new vars.new }
 {
-    let open = unfinished();
     let mut c = Progress {
-        finish: open,
+        finish: Finish::Unfinished,
         rounds: 0,
         block: spot.block,
         count: spot.count,
     };
     for n in 0..budget {
-        if !goes_on(c.finish) {
+        if !c.finish.goes_on() {
             return c;
         }
         let e = rounds::round(plan, rule, quota, c.block, vars, labels, c.count);

@@ -15,11 +15,12 @@ use Rattle.definitions.specs.declared.Finish.{Finish}
 use Rattle.definitions.specs.Rule.{Expr, Stmt, Set, Emit, End}
 use Rattle.definitions.specs.Spelling.{stmt_size}
 use Rattle.definitions.specs.Meaning.{Where, further, eval}
-use Rattle.definitions.specs.Direct.{Way, on, ended, onward, with, step, steps, faulted, quota_full}
+use Rattle.definitions.specs.Direct.{Way, on, ended, onward, with, step, steps}
 use Rattle.definitions.specs.Columns.{reads, read_first, sets, end_looks}
 use Rattle.definitions.proofs.Tests.{or_left, or_right, or_case}
 use Rattle.columns.specs.Alike.{Alike}
 use Rattle.columns.proofs.Reading.{Agree, eval-alike}
+use Rattle.definitions.specs.declared.Finish.TheVariants.{Faulted, QuotaFull}
 
 -- two ways through a block: both ended alike, or both go on with the same labels and such environments
 pub data Ways (v : ℕ) (A : ℕ → Bool) (a b : Way) : Type 0 where
@@ -53,7 +54,7 @@ module _ (v : ℕ) where
   -- what is worked out alike is used alike
   ways_with : (A : ℕ → Bool) (o : Out Flaw Val) (ls : List Val) (f g : Val → Way) → ((z : Val) → Ways v A (f z) (g z)) → Ways v A (with o ls f) (with o ls g)
   ways_with A (value z) ls f g h = h z
-  ways_with A (fault k) ls f g h = both-ended (faulted k) ls refl refl
+  ways_with A (fault k) ls f g h = both-ended (Faulted k) ls refl refl
 
   ways_if : (A : ℕ → Bool) (t : Bool) (a b c d : Way) → Ways v A a b → Ways v A c d → Ways v A (cond t a c) (cond t b d)
   ways_if A true a b c d g h = g
@@ -71,7 +72,7 @@ module _ (v : ℕ) where
     unfolding step
     emit-alike =
         rw (eval-alike a (further p 1) x y h)
-        (ways_with A (eval a (further p 1) y) ls _ _ (λ z. ways_if A (ltb (length ls) q) _ _ _ _ (both-on x y (ls ++ (z ∷ [])) refl refl w) (both-ended quota_full ls refl refl)))
+        (ways_with A (eval a (further p 1) y) ls _ _ (λ z. ways_if A (ltb (length ls) q) _ _ _ _ (both-on x y (ls ++ (z ∷ [])) refl refl w) (both-ended QuotaFull ls refl refl)))
 
 -- ---- all statements of a block
 

@@ -15,11 +15,12 @@ use Rattle.definitions.specs.declared.Kind.TheVariants.{ZeroDivisor, OutOfRange}
 use Rattle.definitions.specs.Rule.{Expr, Stmt, Set, Emit, End, Rule, block_of}
 use Rattle.definitions.specs.Spelling.{stmt_size}
 use Rattle.definitions.specs.Meaning.{Where, further, eval}
-use Rattle.definitions.specs.Direct.{faulted, Way, on, ended, onward, with, emitted, step, steps, Exit, to_block, to_round, to_stop, exit, Round, jumped, finished, leave, through, body_at, ending_at, walk, quota_full}
+use Rattle.definitions.specs.Direct.{status_number, Way, on, ended, onward, with, emitted, step, steps, Exit, to_block, to_round, to_stop, exit, Round, jumped, finished, leave, through, body_at, ending_at, walk}
+use Rattle.definitions.specs.declared.Finish.TheVariants.{Faulted, QuotaFull}
 
 -- how a row ends that has ended
 abbrev pub Ends : Finish → Type 0
-Ends how = (0 < how.status) × (how.status ≤ 4)
+Ends how = (0 < status_number how) × (status_number how ≤ 4)
 
 abbrev pub KeptWay : (E L : List Val → Type 0) → Way → Type 0
 KeptWay E L (on env ls) = E env × L ls
@@ -29,7 +30,7 @@ abbrev pub KeptRound : (E L : List Val → Type 0) → Round → Type 0
 KeptRound E L (jumped t env ls) = E env × L ls
 KeptRound E L (finished how ls) = Ends how × L ls
 
-fault-ends : (f : Flaw) → Ends (faulted f)
+fault-ends : (f : Flaw) → Ends (Faulted f)
 fault-ends f = go f.kind
   where
     go : (k : Kind) → (0 < kind_number k) × (kind_number k ≤ 4)
@@ -46,7 +47,7 @@ module _ (q : ℕ) (Ok : Stmt → Type 0) (E L : List Val → Type 0)
   emitted-kept : (env ls : List Val) (z : Val) → E env → L ls → (length ls < q → L (ls ++ (z ∷ []))) → KeptWay E L (emitted q env ls z)
   emitted-kept env ls z e l h = go (ltb (length ls) q) refl
     where
-      go : (t : Bool) → ltb (length ls) q ≡ t → KeptWay E L (cond t (on env (ls ++ (z ∷ []))) (ended quota_full ls))
+      go : (t : Bool) → ltb (length ls) q ≡ t → KeptWay E L (cond t (on env (ls ++ (z ∷ []))) (ended QuotaFull ls))
       go true p = (e, h (ltb-true (length ls) q p))
       go false p = (omega arith, l)
 

@@ -9,6 +9,7 @@ use lib.ListN.{length, replicate, length-append, length-replicate, length-set}
 use borrow.Author.Tests.{eqb-true, eqb-false}
 use Rattle.definitions.specs.Values.{Val, unset}
 use Rattle.definitions.specs.Rule.{Rule, size}
+use Rattle.definitions.proofs.Ends.{goes-unfinished, above-ended, no-both}
 use Rattle.definitions.specs.Direct.{State, goes_on, Round, jumped, finished, origin, walk, start, joined, advance_from, advance, after_from, after}
 use Rattle.definitions.specs.Columns.{flow_of}
 use Rattle.definitions.proofs.Columns.{entry_in_J}
@@ -85,9 +86,9 @@ module _ (r : Rule) (q : ℕ) where
             }
         go (finished how ls) p k = record {
           status-low = k.0.1;
-          unended = λ z. absurd (omega (arith, k.0, eqb-true how.status 0 z));
+          unended = λ z. goes-unfinished how z;
           began = omega (arith, h.began);
-          going = λ z. absurd (omega (arith, k.0, eqb-true how.status 0 z));
+          going = λ z. no-both how z (above-ended how k.0.0);
           labels-few = k.1.few;
           block-below = h.block-below;
           block_in-J = h.block_in-J;
@@ -103,7 +104,7 @@ module _ (r : Rule) (q : ℕ) where
           status-low = h.status-low;
           unended = h.unended;
           began = omega (arith, h.began);
-          going = λ z. absurd (eqb-false s.finish.status 0 e (eqb-true s.finish.status 0 z));
+          going = λ z. no-both s.finish z e;
           labels-few = h.labels-few;
           block-below = h.block-below;
           block_in-J = h.block_in-J;

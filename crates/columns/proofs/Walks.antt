@@ -10,7 +10,7 @@ use Rattle.definitions.specs.Values.{Val, Out, value, fault}
 use Rattle.definitions.specs.declared.Flaw.{Flaw}
 use Rattle.definitions.specs.declared.Finish.{Finish}
 use Rattle.definitions.specs.Rule.{End, Rule, size, block_of}
-use Rattle.definitions.specs.Direct.{Exit, to_block, to_round, to_stop, exit, Way, on, ended, Round, jumped, finished, leave, through, steps, body_at, ending_at, origin, walk, stopped, faulted}
+use Rattle.definitions.specs.Direct.{Exit, to_block, to_round, to_stop, exit, Way, on, ended, Round, jumped, finished, leave, through, steps, body_at, ending_at, origin, walk}
 use Rattle.definitions.specs.Meaning.{Where}
 use Rattle.definitions.specs.Columns.{led_to, flow_of, inputs_of, outputs_of, names, J, outputs, LC, sets, goes_to, jumps_to}
 use Rattle.definitions.specs.Batch.{columns_of}
@@ -24,6 +24,7 @@ use Rattle.columns.specs.Alike.{Alike}
 use Rattle.columns.proofs.Alike.{Ways, both-on, both-ended, Covered, alike-less, alike_self, looks-agree, steps_alike}
 use Rattle.columns.proofs.Sets.{alike-kept, columns-same, spread-alike}
 use Rattle.columns.proofs.Endings.{Named, exit_named}
+use Rattle.definitions.specs.declared.Finish.TheVariants.{Stopped, Faulted}
 
 -- two rounds: both ended alike, or both jump to one block of J, with the same labels and environments that agree on the LC columns
 pub data Rounds (r : Rule) (a b : Round) : Type 0 where
@@ -67,8 +68,8 @@ module _ (r : Rule) (ok : Proper r) where
         let j = jumped-in-J t (n.jumps t refl) in
         let m = ok.jump_below b t l (n.jumps t refl) in
         both-jumped t x y ls refl refl m j (alike-less _ _ _ x y (λ k i p. named-inputs t m (or_right ((flow_of r).gotos b t) _ (and_both (led_to r b) _ led (n.jumps t refl))) k i (shared (flow_of r) t k m i j ∙ p)) w)
-    leave-alike (value to_stop) n x y ls w W U h = both-finished stopped ls refl refl
-    leave-alike (fault k) n x y ls w W U h = both-finished (faulted k) ls refl refl
+    leave-alike (value to_stop) n x y ls w W U h = both-finished Stopped ls refl refl
+    leave-alike (fault k) n x y ls w W U h = both-finished (Faulted k) ls refl refl
 
     -- ---- the block
     block-alike : (q : ℕ) (x y ls : List Val) → Alike r.variables (inputs_of (flow_of r) b) x y → (W U : ℕ → List Val → List Val → Round)

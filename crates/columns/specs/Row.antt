@@ -3,11 +3,12 @@
 use Rattle.std.specs.Prelude.{ℕ, zero, suc, ◌+◌, ◌≤◌, ◌<◌, ◌≡◌, true, cond, List, length}
 use Rattle.definitions.specs.Values.{Val}
 use Rattle.definitions.specs.Rule.{Rule, size}
-use Rattle.definitions.specs.Direct.{State, unfinished, goes_on, Round, jumped, finished}
+use Rattle.definitions.specs.Direct.{State, status_number, goes_on, Round, jumped, finished}
 use Rattle.definitions.specs.declared.Finish.{Finish}
 use Rattle.definitions.specs.Columns.{flow_of, J, LC}
 use Rattle.definitions.specs.Batch.{columns_of}
 use Rattle.columns.specs.OnPlan.{line_round}
+use Rattle.definitions.specs.declared.Finish.TheVariants.{Unfinished}
 
 pub record Row : Type 0 where
   pub finish : Finish
@@ -22,7 +23,7 @@ seen r s = record { finish = s.finish; begun = s.begun; labels = s.labels; block
 
 -- the row after the round that it asked for, as `joined` of the direct run
 abbrev pub joined_on : Row → Round → Row
-joined_on s (jumped b cols ls) = record { finish = unfinished; begun = s.begun + 1; labels = ls; block = b; cols = cols }
+joined_on s (jumped b cols ls) = record { finish = Unfinished; begun = s.begun + 1; labels = ls; block = b; cols = cols }
 joined_on s (finished how ls) = record { finish = how; begun = s.begun + 1; labels = ls; block = s.block; cols = s.cols }
 
 unfoldable pub advance_on : Rule → ℕ → Row → Row
@@ -34,8 +35,8 @@ after_on r q (suc n) s = advance_on r q (after_on r q n s)
 
 -- what holds of a row's state in the direct run after n rounds
 pub record Sound (r : Rule) (q n : ℕ) (s : State) : Type 0 where
-  pub status-low : s.finish.status ≤ 4
-  pub unended : goes_on s.finish ≡ true → s.finish ≡ unfinished
+  pub status-low : status_number s.finish ≤ 4
+  pub unended : goes_on s.finish ≡ true → s.finish ≡ Unfinished
   pub began : s.begun ≤ n
   pub going : goes_on s.finish ≡ true → s.begun ≡ n
   pub labels-few : length s.labels ≤ q

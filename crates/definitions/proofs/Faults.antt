@@ -12,12 +12,13 @@ use Rattle.definitions.specs.Rule.{Operator, Add, Subtract, Multiply, Divide, Re
 use Rattle.definitions.specs.Rule.{Stmt, Set, Emit, End, Goto, Jump, Stop, If, Block, Rule, size, block_of}
 use Rattle.definitions.specs.Spelling.{operator_byte, expr_bytes, cond_bytes, stmt_bytes, end_bytes, in_turn, block_bytes, bytes_of, expr_size, cond_size, stmt_size, end_size, body_size, block_place}
 use Rattle.definitions.specs.Meaning.{Where, at_byte, flaw, applied, decided, handed_up, negated, operated, eval, holds}
-use Rattle.definitions.specs.Direct.{Way, on, ended, onward, with, emitted, quota_full, step, steps, Exit, to_block, to_round, to_stop, exit, Round, jumped, finished, leave, through, origin, walk}
-use Rattle.definitions.specs.Faulting.{OwnFault, negating, operating, Among, Tells, no_fault, at_fault}
-use Rattle.definitions.specs.Direct.{State, goes_on, joined, start, advance_from, advance, after_from, after}
+use Rattle.definitions.specs.Direct.{Way, on, ended, onward, with, emitted, step, steps, Exit, to_block, to_round, to_stop, exit, Round, jumped, finished, leave, through, origin, walk}
+use Rattle.definitions.specs.Faulting.{OwnFault, negating, operating, Among, Tells, no_fault, at_fault, Telling}
+use Rattle.definitions.specs.Direct.{State, status_number, fault_place, goes_on, joined, start, advance_from, advance, after_from, after}
 use Rattle.definitions.specs.declared.Kind.{Kind}
 use Rattle.definitions.specs.declared.Flaw.{Flaw}
 use Rattle.definitions.specs.declared.Finish.{Finish}
+use Rattle.definitions.specs.declared.Finish.TheVariants.{QuotaFull}
 
 -- ---- among the bytes of a part is among those of the whole
 
@@ -123,13 +124,13 @@ mutual
 
 -- ---- statements and endings
 
-tells_more : (P Q : Flaw → Type 0) (how : Finish) → ((f : Flaw) → P f → Q f) → Tells P how → Tells Q how
-tells_more P Q how i (no_fault n h k) = no_fault n h k
-tells_more P Q how i (at_fault f h) = at_fault f (i f h)
+tells_more : (P Q : Flaw → Type 0) (s p : ℕ) → ((f : Flaw) → P f → Q f) → Tells P s p → Tells Q s p
+tells_more P Q s p i (no_fault n h k) = no_fault n h k
+tells_more P Q s p i (at_fault f h) = at_fault f (i f h)
 
 unfoldable WayPoints : (Flaw → Type 0) → Way → Type 0
 WayPoints P (on env ls) = Unit {0}
-WayPoints P (ended how ls) = Tells P how
+WayPoints P (ended how ls) = Telling P how
 
 with_points : {B : Type 0} (P Q : Flaw → Type 0) (o : Out Flaw B) (ls : List Val) (f : B → Way) → ((f : Flaw) → P f → Q f) → AtFault P o → ((b : B) → WayPoints Q (f b)) → WayPoints Q (with o ls f)
 unfolding AtFault WayPoints
@@ -144,7 +145,7 @@ emitted_points : (P : Flaw → Type 0) (q : ℕ) (env ls : List Val) (z : Val) �
 unfolding WayPoints
 emitted_points P q env ls z = go (ltb (length ls) q)
   where
-    go : (t : Bool) → WayPoints P (cond t (on env (ls ++ (z ∷ []))) (ended quota_full ls))
+    go : (t : Bool) → WayPoints P (cond t (on env (ls ++ (z ∷ []))) (ended QuotaFull ls))
     go true = tt
     go false = no_fault 4 (λ e. omega arith) (λ e. omega arith)
 
@@ -160,8 +161,8 @@ onward_points P Q R (on env ls) f i j h k = go (f env ls) (k env ls)
   where
     go : (w : Way) → WayPoints Q w → WayPoints R w
     go (on env ls) h = tt
-    go (ended how ls) h = tells_more Q R how j h
-onward_points P Q R (ended how ls) f i j h k = tells_more P R how i h
+    go (ended how ls) h = tells_more Q R (status_number how) (fault_place how) j h
+onward_points P Q R (ended how ls) f i j h k = tells_more P R (status_number how) (fault_place how) i h
 
 steps_points : (q : ℕ) (xs : List Stmt) (p : ℕ) (env ls : List Val) → WayPoints (Among p (in_turn stmt_bytes xs)) (steps q xs (at_byte p) env ls)
 unfolding steps in_turn
@@ -184,7 +185,7 @@ exit_points (If c x y) p env =
 
 unfoldable RoundPoints : (Flaw → Type 0) → Round → Type 0
 RoundPoints P (jumped b env ls) = Unit {0}
-RoundPoints P (finished how ls) = Tells P how
+RoundPoints P (finished how ls) = Telling P how
 
 leave_points : (P Q : Flaw → Type 0) (o : Out Flaw Exit) (env ls : List Val) (W : ℕ → Round) → ((f : Flaw) → P f → Q f) → AtFault P o → ((t : ℕ) → RoundPoints Q (W t)) → RoundPoints Q (leave o env ls W)
 unfolding AtFault RoundPoints
@@ -197,7 +198,7 @@ through_points : (P Q R : Flaw → Type 0) (a : Way) (e : End) (w : Where) (W : 
     → WayPoints P a → ((env : List Val) → AtFault Q (exit e w env)) → ((t : ℕ) (env ls : List Val) → RoundPoints R (W t env ls)) → RoundPoints R (through a e w W)
 unfolding WayPoints RoundPoints
 through_points P Q R (on env ls) e w W i j h g k = leave_points Q R _ env ls _ j (g env) (λ t. k t env ls)
-through_points P Q R (ended how ls) e w W i j h g k = tells_more P R how i h
+through_points P Q R (ended how ls) e w W i j h g k = tells_more P R (status_number how) (fault_place how) i h
 
 -- a block that only stops is the one byte of its ending, and no operator's tag is
 none_in_stop : (p : ℕ) (f : Flaw) → Among p (block_bytes (record { body = []; ending = Stop })) f → ⊥
@@ -243,24 +244,24 @@ module _ (r : Rule) where
       (steps_points q x.body p env ls) (λ env. exit_points x.ending (p + body_size x) env) (λ t env ls. walk_points f q t env ls)
 
   -- ---- a row
-  joined_points : (P : Flaw → Type 0) (s : State) (R : Round) → RoundPoints P R → Tells P (joined s R).finish
+  joined_points : (P : Flaw → Type 0) (s : State) (R : Round) → RoundPoints P R → Telling P (joined s R).finish
   unfolding RoundPoints
   joined_points P s (jumped b env ls) h = no_fault 0 (λ e. omega arith) (λ e. omega arith)
   joined_points P s (finished how ls) h = h
 
-  advance_points : (q : ℕ) (s : State) → Tells (Among 0 (bytes_of r)) s.finish → Tells (Among 0 (bytes_of r)) (advance r q s).finish
+  advance_points : (q : ℕ) (s : State) → Telling (Among 0 (bytes_of r)) s.finish → Telling (Among 0 (bytes_of r)) (advance r q s).finish
   unfolding advance_from
   advance_points q s h = go (goes_on s.finish)
     where
-      go : (t : Bool) → Tells (Among 0 (bytes_of r)) (cond t (joined s (walk (size r) origin r q s.block s.vars s.labels)) s).finish
+      go : (t : Bool) → Telling (Among 0 (bytes_of r)) (cond t (joined s (walk (size r) origin r q s.block s.vars s.labels)) s).finish
       go true = joined_points _ s _ (walk_points (size r) q s.block s.vars s.labels)
       go false = h
 
-  pub after_points : (q n : ℕ) (s : State) → Tells (Among 0 (bytes_of r)) s.finish → Tells (Among 0 (bytes_of r)) (after r q n s).finish
+  pub after_points : (q n : ℕ) (s : State) → Telling (Among 0 (bytes_of r)) s.finish → Telling (Among 0 (bytes_of r)) (after r q n s).finish
   unfolding after_from
   after_points q zero s h = h
   after_points q (suc n) s h = advance_points q (after r q n s) (after_points q n s h)
 
   -- the theorem: a row of a batch tells the place of the operator at fault, and 0 if none is
-  pub run_tells : (q n : ℕ) (args : List Val) → Tells (Among 0 (bytes_of r)) (after r q n (start r args)).finish
+  pub run_tells : (q n : ℕ) (args : List Val) → Telling (Among 0 (bytes_of r)) (after r q n (start r args)).finish
   run_tells q n args = after_points q n (start r args) (no_fault 0 (λ e. omega arith) (λ e. omega arith))

@@ -1,3 +1,4 @@
+pub mod Ends
 pub mod Handed
 pub mod Numbered
 pub mod Tests

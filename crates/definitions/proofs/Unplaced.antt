@@ -1,20 +1,22 @@
 -- Where things stand decides nothing but the place that a fault tells: a run nowhere is the run anywhere, its places forgotten. Assumes nothing.
 use Prim.Native.Nat.{ℕ, zero, suc, ◌+◌, max}
-use mathlib.Core.Path.{◌≡◌, refl, ap, ◌∙◌}
+use mathlib.Core.Path.{◌≡◌, refl, ap, ◌∙◌, sym}
 use mathlib.Core.Bool.{Bool, true, false, cond}
 use mathlib.Core.List.{List, [], ◌∷◌, ◌++◌, map}
 use lib.IntN.{ℤ, pos}
 use lib.Dec.{ltb}
 use lib.ListN.{length, set, length-map}
-use Rattle.definitions.specs.Values.{Word, Val, number, Out, value, fault, also, negation}
+use Rattle.definitions.specs.Values.{Word, Val, number, Out, value, fault, also, negation, words_of}
 use Rattle.definitions.specs.Rule.{Operator, Expr, Cond, Const, Var, Neg, Op, Case, Compare, Not, Join, Stmt, Set, Emit, End, Goto, Jump, Stop, If, Rule, size, block_of}
 use Rattle.definitions.specs.Spelling.{expr_size, cond_size, stmt_size, end_size}
 use Rattle.definitions.specs.Meaning.{Where, nowhere, further, applied, decided, handed_up, negated, operated, eval, holds}
-use Rattle.definitions.specs.Direct.{Way, on, ended, onward, with, emitted, quota_full, step, steps, Exit, to_block, to_round, to_stop, exit, Round, jumped, finished, leave, through, body_at, ending_at, walk}
+use Rattle.definitions.specs.Direct.{Way, on, ended, onward, with, emitted, step, steps, Exit, to_block, to_round, to_stop, exit, Round, jumped, finished, leave, through, body_at, ending_at, walk}
 use Rattle.definitions.specs.Direct.{State, goes_on, joined, advance_from, after_from, placeless, unplaced}
-use Rattle.definitions.specs.Batch.{record_of, line_of, lines_from, live_of, table_of, most_of}
+use Rattle.definitions.specs.Batch.{record_words, record_of, line_of, lines_from, live_of, table_of, most_of}
 use Rattle.definitions.specs.declared.Kind.{Kind}
 use Rattle.definitions.specs.declared.Flaw.{Flaw}
+use Rattle.definitions.specs.declared.Finish.{Finish}
+use Rattle.definitions.specs.declared.Finish.TheVariants.{Unfinished, Stopped, Faulted, QuotaFull}
 
 -- ---- what is worked out, a way and a round, their places forgotten
 
@@ -96,7 +98,7 @@ emitted-unplaced : (q : ℕ) (env ls : List Val) (z : Val) → way_unplaced (emi
 unfolding way_unplaced
 emitted-unplaced q env ls z = go (ltb (length ls) q)
   where
-    go : (t : Bool) → way_unplaced (cond t (on env (ls ++ (z ∷ []))) (ended quota_full ls)) ≡ cond t (on env (ls ++ (z ∷ []))) (ended quota_full ls)
+    go : (t : Bool) → way_unplaced (cond t (on env (ls ++ (z ∷ []))) (ended QuotaFull ls)) ≡ cond t (on env (ls ++ (z ∷ []))) (ended QuotaFull ls)
     go true = refl
     go false = refl
 
@@ -152,9 +154,15 @@ unfolding round_unplaced
 joined-unplaced s (jumped b env ls) = refl
 joined-unplaced s (finished how ls) = refl
 
+going-placeless : (how : Finish) → goes_on (placeless how) ≡ goes_on how
+going-placeless Unfinished = refl
+going-placeless Stopped = refl
+going-placeless (Faulted f) = refl
+going-placeless QuotaFull = refl
+
 pub advance-unplaced : (w : Where) (r : Rule) (q : ℕ) (s : State) → unplaced (advance_from w r q s) ≡ advance_from nowhere r q (unplaced s)
 unfolding advance_from
-advance-unplaced w r q s = go (goes_on s.finish)
+advance-unplaced w r q s = rw (going-placeless s.finish) (go (goes_on s.finish))
   where
     go : (t : Bool) → unplaced (cond t (joined s (walk (size r) w r q s.block s.vars s.labels)) s)
         ≡ cond t (joined (unplaced s) (walk (size r) nowhere r q s.block s.vars s.labels)) (unplaced s)
@@ -169,21 +177,27 @@ after-unplaced w r q (suc n) s = advance-unplaced w r q (after_from w r q n s) �
 -- ---- what a caller sees of it: a record keeps all but its fourth word, and lines, rounds and who is unfinished stay
 
 pub record_unplaced : (q : ℕ) (s : State) → record_of q (unplaced s) ≡ set (record_of q s) 3 (pos 0)
-record_unplaced q s = refl
+record_unplaced q s = go s.finish
+  where
+    go : (how : Finish) → record_words q (placeless how) s.begun (length s.labels) (words_of s.labels) ≡ set (record_words q how s.begun (length s.labels) (words_of s.labels)) 3 (pos 0)
+    go Unfinished = refl
+    go Stopped = refl
+    go (Faulted f) = refl
+    go QuotaFull = refl
 
 -- rows that are the same but for the places of their faults
 pub record_same : (q : ℕ) (s s' : State) → unplaced s ≡ unplaced s' → set (record_of q s) 3 (pos 0) ≡ set (record_of q s') 3 (pos 0)
-record_same q s s' e = ap (record_of q) e
+record_same q s s' e = sym (record_unplaced q s) ∙ ap (record_of q) e ∙ record_unplaced q s'
 
 pub lines-unplaced : (v : ℕ) (lc : ℕ → Bool) (k : ℕ) (ss : List State) → lines_from v lc k (map unplaced ss) ≡ lines_from v lc k ss
 unfolding lines_from
 lines-unplaced v lc k [] = refl
-lines-unplaced v lc k (s ∷ ss) = ap (λ (l : List Word). cond (goes_on s.finish) (line_of v lc k s) [] ++ l) (lines-unplaced v lc (k + 1) ss)
+lines-unplaced v lc k (s ∷ ss) = rw (going-placeless s.finish) (ap (λ (l : List Word). cond (goes_on s.finish) (line_of v lc k s) [] ++ l) (lines-unplaced v lc (k + 1) ss))
 
 pub live-unplaced : (ss : List State) → live_of (map unplaced ss) ≡ live_of ss
 unfolding live_of
 live-unplaced [] = refl
-live-unplaced (s ∷ ss) = ap (λ (n : ℕ). cond (goes_on s.finish) 1 0 + n) (live-unplaced ss)
+live-unplaced (s ∷ ss) = rw (going-placeless s.finish) (ap (λ (n : ℕ). cond (goes_on s.finish) 1 0 + n) (live-unplaced ss))
 
 pub table-unplaced : (v : ℕ) (lc : ℕ → Bool) (ss : List State) → table_of v lc (map unplaced ss) ≡ table_of v lc ss
 table-unplaced v lc ss = rw (lines-unplaced v lc 0 ss, live-unplaced ss, length-map ss unplaced)

@@ -2,7 +2,7 @@
 use Rattle.std.specs.Prelude.{ℕ, zero, suc, ◌+◌, ◌-◌, ◌*◌, max, Bool, cond, List, [], ◌∷◌, ◌++◌, pos, length, take, drop, get_or, replicate}
 use Rattle.definitions.specs.Values.{Word, Val, values_in, words_of, unset}
 use Rattle.definitions.specs.Rule.{Rule}
-use Rattle.definitions.specs.Direct.{State, goes_on, start, after}
+use Rattle.definitions.specs.Direct.{State, status_number, fault_place, goes_on, start, after}
 use Rattle.definitions.specs.declared.Finish.{Finish}
 
 -- ---- the rows
@@ -41,7 +41,7 @@ record_size q = 4 + q
 
 -- the status, the rounds begun, how many labels, where the fault lies (02, K4), so many labels, and zeros up to the quota
 abbrev pub record_words : ℕ → Finish → ℕ → ℕ → List Word → List Word
-record_words q how begun count labels = pos how.status ∷ pos begun ∷ pos count ∷ pos how.place ∷ (labels ++ replicate (q - count) (pos 0))
+record_words q how begun count labels = pos (status_number how) ∷ pos begun ∷ pos count ∷ pos (fault_place how) ∷ (labels ++ replicate (q - count) (pos 0))
 
 abbrev pub record_of : ℕ → State → List Word
 record_of q s = record_words q s.finish s.begun (length s.labels) (words_of s.labels)

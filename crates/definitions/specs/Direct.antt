@@ -1,29 +1,34 @@
 -- 01, Meaning and A batch, and K4 of 02: the direct run of a rule for one row. It goes by rounds, keeps all variables, and tells where a fault lies.
-use Rattle.std.specs.Prelude.{ℕ, zero, suc, ◌+◌, ◌-◌, Bool, cond, List, [], ◌∷◌, ◌++◌, eqb, ltb, length, set, replicate}
+use Rattle.std.specs.Prelude.{ℕ, zero, suc, ◌+◌, ◌-◌, Bool, true, false, cond, List, [], ◌∷◌, ◌++◌, ltb, length, set, replicate}
 use Rattle.definitions.specs.Values.{Val, unset, Out, value, fault, also, kind_number}
 use Rattle.definitions.specs.Rule.{Stmt, Set, Emit, End, Goto, Jump, Stop, If, Rule, size, block_of}
 use Rattle.definitions.specs.Spelling.{cond_size, stmt_size, end_size, body_size, block_place}
 use Rattle.definitions.specs.Meaning.{Where, at_byte, further, eval, holds}
 use Rattle.definitions.specs.declared.Flaw.{Flaw}
 use Rattle.definitions.specs.declared.Finish.{Finish}
+use Rattle.definitions.specs.declared.Finish.TheVariants.{Unfinished, Stopped, Faulted, QuotaFull}
 
--- ---- how a row ends, or that it has not: its status, and where its fault lies, 0 if it has none
+-- ---- how a row ends, or that it has not
 
-abbrev pub unfinished : Finish
-unfinished = record { status = 0; place = 0 }
+-- its status; a fault's is its kind's number, 2 or 3
+abbrev pub status_number : Finish → ℕ
+status_number Unfinished = 0
+status_number Stopped = 1
+status_number (Faulted f) = kind_number f.kind
+status_number QuotaFull = 4
 
-abbrev pub stopped : Finish
-stopped = record { status = 1; place = 0 }
-
--- a fault's status is its kind's number, 2 or 3
-abbrev pub faulted : Flaw → Finish
-faulted f = record { status = kind_number f.kind; place = f.place }
-
-abbrev pub quota_full : Finish
-quota_full = record { status = 4; place = 0 }
+-- where its fault lies, 0 if it has none
+abbrev pub fault_place : Finish → ℕ
+fault_place Unfinished = 0
+fault_place Stopped = 0
+fault_place (Faulted f) = f.place
+fault_place QuotaFull = 0
 
 abbrev pub goes_on : Finish → Bool
-goes_on f = eqb f.status 0
+goes_on Unfinished = true
+goes_on Stopped = false
+goes_on (Faulted f) = false
+goes_on QuotaFull = false
 
 -- ---- inside a block
 
@@ -39,11 +44,11 @@ onward (ended how ls) f = ended how ls
 -- what is worked out, used where it is a value; a fault ends the row, and its labels stay
 abbrev pub with : {B : Type 0} → Out Flaw B → List Val → (B → Way) → Way
 with (value b) ls f = f b
-with (fault k) ls f = ended (faulted k) ls
+with (fault k) ls f = ended (Faulted k) ls
 
 -- an emit works out its expression first; then, where the quota is used up, the row ends
 abbrev pub emitted : ℕ → List Val → List Val → Val → Way
-emitted q env ls z = cond (ltb (length ls) q) (on env (ls ++ (z ∷ []))) (ended quota_full ls)
+emitted q env ls z = cond (ltb (length ls) q) (on env (ls ++ (z ∷ []))) (ended QuotaFull ls)
 
 unfoldable pub step : ℕ → Stmt → Where → List Val → List Val → Way
 step q (Set x e) w env ls = with (eval e (further w 2) env) ls (λ z. on (set env x z) ls)
@@ -77,8 +82,8 @@ pub data Round : Type 0 where
 abbrev pub leave : Out Flaw Exit → List Val → List Val → (ℕ → Round) → Round
 leave (value (to_block t)) env ls W = W t
 leave (value (to_round t)) env ls W = jumped t env ls
-leave (value to_stop) env ls W = finished stopped ls
-leave (fault k) env ls W = finished (faulted k) ls
+leave (value to_stop) env ls W = finished Stopped ls
+leave (fault k) env ls W = finished (Faulted k) ls
 
 -- the ending stands at w
 abbrev pub through : Way → End → Where → (ℕ → List Val → List Val → Round) → Round
@@ -108,11 +113,11 @@ pub record State : Type 0 where
 
 -- the arguments, and all other variables unset; round 1 starts at the entry
 abbrev pub start : Rule → List Val → State
-start r args = record { finish = unfinished; begun = 0; labels = []; block = 0; vars = args ++ replicate (r.variables - length args) unset }
+start r args = record { finish = Unfinished; begun = 0; labels = []; block = 0; vars = args ++ replicate (r.variables - length args) unset }
 
 -- the state after the round that it asked for; a row that ended keeps the block and the variables it had
 abbrev pub joined : State → Round → State
-joined s (jumped b env ls) = record { finish = unfinished; begun = s.begun + 1; labels = ls; block = b; vars = env }
+joined s (jumped b env ls) = record { finish = Unfinished; begun = s.begun + 1; labels = ls; block = b; vars = env }
 joined s (finished how ls) = record { finish = how; begun = s.begun + 1; labels = ls; block = s.block; vars = s.vars }
 
 -- one round under quota q, of a rule that lies at w; a finished row stays as it is
@@ -137,7 +142,10 @@ after = after_from origin
 -- ---- a row but for where its fault lies
 
 abbrev pub placeless : Finish → Finish
-placeless how = record { status = how.status; place = 0 }
+placeless Unfinished = Unfinished
+placeless Stopped = Stopped
+placeless (Faulted f) = Faulted (record { kind = f.kind; place = 0 })
+placeless QuotaFull = QuotaFull
 
 abbrev pub unplaced : State → State
 unplaced s = record { finish = placeless s.finish; begun = s.begun; labels = s.labels; block = s.block; vars = s.vars }

@@ -7,7 +7,7 @@ use Rattle.definitions.specs.Rule.{Add, Subtract, Less, Const, Var, Op, Compare,
 use Rattle.definitions.specs.Grammar.{Got, got, refused, then, twos, expr_at, end_at, block_from, blocks_to, headed, parsed, rule_of}
 use Rattle.definitions.specs.Spelling.{constant_bytes, expr_bytes, cond_bytes, stmt_bytes, end_bytes, in_turn, block_bytes, bytes_of}
 use Rattle.definitions.specs.Meaning.{at_byte, eval}
-use Rattle.definitions.specs.Direct.{unfinished, step, steps, exit, walk, start, advance_from, after_from, after}
+use Rattle.definitions.specs.Direct.{step, steps, exit, walk, start, advance_from, after_from, after}
 use Rattle.definitions.specs.Columns.{some, reads, end_looks, read_first, sets, goes_to, jumps_to, outputs, from, grown, growths, closure, led_to, inputs_of}
 use Rattle.definitions.specs.Order.{lowest_of, goes_back}
 use Rattle.definitions.specs.Cycles.{cycle_of}
@@ -19,6 +19,7 @@ use Rattle.definitions.specs.Refusals.{Reply}
 use Rattle.definitions.specs.declared.Kind.TheVariants.{OutOfRange}
 use Rattle.std.specs.Prelude.{Ok}
 use Rattle.definitions.specs.declared.Reason.TheVariants.{EndsEarly, GotoCycle}
+use Rattle.definitions.specs.declared.Finish.TheVariants.{Unfinished}
 
 -- rule R: 45 bytes
 abbrev pub R : List ℕ
@@ -123,7 +124,7 @@ examples =
     ∷ ((length smallest ≡ 5) × (then (rule_of smallest) (λ r n. got n n) ≡ got 5 5) × (to_write (take 4 smallest) ≡ refused EndsEarly 4))
     -- E12: a goto to its own block is a cycle (K5); with a jump it is accepted, and unfinished under every budget
     ∷ ((rule_of (0x01 ∷ 0x01 ∷ 0x00 ∷ 0x01 ∷ 0x30 ∷ 0x00 ∷ []) ≡ refused GotoCycle 0) × (rule_of (0x01 ∷ 0x01 ∷ 0x00 ∷ 0x01 ∷ 0x31 ∷ 0x00 ∷ []) ≡ got endless 6)
-    × ((q n : ℕ) → (after endless q n (start endless [])).finish.status ≡ 0))
+    × ((q n : ℕ) → (after endless q n (start endless [])).finish ≡ Unfinished))
     ∷ []
 
 -- ---- the claims
@@ -133,10 +134,10 @@ All [] = Unit {0}
 All (claim ∷ claims) = claim × All claims
 
 -- after n rounds the endless rule has begun n, and stands where it stood
-endless-after : (q n : ℕ) → after endless q n (start endless []) ≡ record { finish = unfinished; begun = n; labels = []; block = 0; vars = unset ∷ [] }
+endless-after : (q n : ℕ) → after endless q n (start endless []) ≡ record { finish = Unfinished; begun = n; labels = []; block = 0; vars = unset ∷ [] }
 unfolding after_from advance_from walk exit steps
 endless-after q zero = refl
-endless-after q (suc n) = rw (endless-after q n) (ap (λ k. record { finish = unfinished; begun = k; labels = []; block = 0; vars = unset ∷ [] }) (add-one n))
+endless-after q (suc n) = rw (endless-after q n) (ap (λ k. record { finish = Unfinished; begun = k; labels = []; block = 0; vars = unset ∷ [] }) (add-one n))
 
 pub examples_hold : All examples
 unfolding examples settled quotient remainder twos expr_at end_at block_from blocks_to headed parsed rule_of eval step steps exit walk advance_from after_from expr_bytes cond_bytes stmt_bytes end_bytes in_turn block_bytes
@@ -144,7 +145,7 @@ unfolding examples settled quotient remainder twos expr_at end_at block_from blo
     word_sum check_of page_body page_of pages_to file_of starts_of map_from records_of count_to columns_of lines_from live_of most_of
     to_write first_over ran_reply run_reply records_in table_in
 examples_hold =
-    ((refl, refl), ((refl, refl), (refl, (refl, (refl, ((refl, refl), ((refl, refl, refl), ((refl, refl), (refl, (refl, ((refl, refl, refl), ((refl, refl, λ q n. ap (λ s. s.finish.status) (endless-after q n)), tt))))))))))))
+    ((refl, refl), ((refl, refl), (refl, (refl, (refl, ((refl, refl), ((refl, refl, refl), ((refl, refl), (refl, (refl, ((refl, refl, refl), ((refl, refl, λ q n. ap (λ s. s.finish) (endless-after q n)), tt))))))))))))
 
 -- R is read as its tree, and the tree is written as R; a constant below 0 is written in two's complement
 pub written : ((rule_of R ≡ got tree_r 45) × (bytes_of tree_r ≡ R)) × ((constant_bytes (minus 1) ≡ 0xFF ∷ 0xFF ∷ 0xFF ∷ 0xFF ∷ []) × (constant_bytes (minus 2147483648) ≡ 0 ∷ 0 ∷ 0 ∷ 0x80 ∷ []))

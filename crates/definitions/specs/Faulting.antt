@@ -1,11 +1,11 @@
 -- 02, K4: what a record says of a fault: the operator that stands at its place is the one at fault.
 use Rattle.std.specs.Prelude.{ℕ, ◌+◌, ◌≡◌, List, ◌++◌, ℤ, length}
-use Rattle.definitions.specs.Values.{Val, number, value, fault, negation}
+use Rattle.definitions.specs.Values.{Val, number, value, fault, negation, kind_number}
 use Rattle.definitions.specs.Rule.{Operator, Expr, Neg, Op}
 use Rattle.definitions.specs.Spelling.{expr_bytes}
 use Rattle.definitions.specs.Meaning.{Where, applied, eval}
-use Rattle.definitions.specs.Direct.{faulted}
 use Rattle.definitions.specs.declared.Kind.{Kind}
+use Rattle.definitions.specs.Direct.{status_number, fault_place}
 use Rattle.definitions.specs.declared.Flaw.{Flaw}
 use Rattle.definitions.specs.declared.Finish.{Finish}
 
@@ -24,7 +24,10 @@ pub record Among (p : ℕ) (bytes : List ℕ) (f : Flaw) : Type 0 where
   pub place_is : f.place ≡ p + length front
   pub own : OwnFault env f.kind operator
 
--- a row's end: status 2 or 3 with the place of an operator that P holds of, or any other status with place 0
-pub data Tells (P : Flaw → Type 0) : Finish → Type 0 where
-  no_fault : (n : ℕ) → (n ≡ 2 → ⊥) → (n ≡ 3 → ⊥) → Tells P (record { status = n; place = 0 })
-  at_fault : (f : Flaw) → P f → Tells P (faulted f)
+-- a row's status and place: 2 or 3 with the place of an operator that P holds of, or any other status with place 0
+pub data Tells (P : Flaw → Type 0) : ℕ → ℕ → Type 0 where
+  no_fault : (n : ℕ) → (n ≡ 2 → ⊥) → (n ≡ 3 → ⊥) → Tells P n 0
+  at_fault : (f : Flaw) → P f → Tells P (kind_number f.kind) f.place
+
+abbrev pub Telling : (Flaw → Type 0) → Finish → Type 0
+Telling P how = Tells P (status_number how) (fault_place how)

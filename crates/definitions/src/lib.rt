@@ -2,8 +2,7 @@
 #![tactic(auto)]
 
 ghost use Rattle.std.specs.Prelude.{◌≡◌};
-ghost use Rattle.definitions.specs.Values.{kind_number};
-ghost use Rattle.definitions.specs.Direct.{unfinished, stopped, faulted, quota_full, goes_on};
+ghost use Rattle.definitions.specs.Direct.{status_number, fault_place, goes_on};
 ghost use Rattle.definitions.specs.Refusals.{number_of};
 
 // The most bytes that a rule has, and a plan.
@@ -42,11 +41,47 @@ pub struct Flaw {
     pub place: u16,
 }
 
-// How a row ended, or that it has not; and where, for a fault.
-#[derive(Clone, Copy)]
-pub struct Finish {
-    pub status: u8,
-    pub place: u16,
+// How a row ended, or that it has not.
+#[derive(Clone, Copy, Debug, PartialEq, Eq)]
+pub enum Finish {
+    Unfinished,
+    Stopped,
+    Faulted(Flaw),
+    QuotaFull,
+}
+
+impl Finish {
+    // The status that a record tells; a fault's is the number of its kind.
+    pub fn status(self) -> u8
+        ensures { result ≡ status_number self }
+    {
+        match self {
+            Finish::Unfinished => 0,
+            Finish::Stopped => 1,
+            Finish::Faulted(f) => f.kind as u8,
+            Finish::QuotaFull => 4,
+        }
+    }
+
+    // Where the fault lies, 0 if there is none.
+    pub fn place(self) -> u16
+        ensures { result ≡ fault_place self }
+    {
+        match self {
+            Finish::Faulted(f) => f.place,
+            _ => 0,
+        }
+    }
+
+    // Whether a row that ends so goes on.
+    pub fn goes_on(self) -> bool
+        ensures { result ≡ goes_on self }
+    {
+        match self {
+            Finish::Unfinished => true,
+            _ => false,
+        }
+    }
 }
 
 // Why bad input is refused. Each reason has the number that document 01 gives it.
@@ -101,57 +136,4 @@ pub struct Refusal {
 pub enum Place {
     InResult(usize),
     InWork(usize),
-}
-
-// ---- the ends of a row
-
-pub fn unfinished() -> Finish
-    ensures { result ≡ unfinished }
-{
-    Finish {
-        status: 0,
-        place: 0,
-    }
-}
-
-pub fn stopped() -> Finish
-    ensures { result ≡ stopped }
-{
-    Finish {
-        status: 1,
-        place: 0,
-    }
-}
-
-fn kind_number(k: Kind) -> u8
-    ensures { result ≡ kind_number k }
-{
-    k as u8
-}
-
-pub fn faulted(f: Flaw) -> Finish
-    ensures { result ≡ faulted f }
-{
-    let k = f.kind;
-    let status = kind_number(k);
-    Finish {
-        status,
-        place: f.place,
-    }
-}
-
-pub fn quota_full() -> Finish
-    ensures { result ≡ quota_full }
-{
-    Finish {
-        status: 4,
-        place: 0,
-    }
-}
-
-// Whether a row that ends so goes on.
-pub fn goes_on(f: Finish) -> bool
-    ensures { result ≡ goes_on f }
-{
-    f.status == 0
 }

@@ -28,6 +28,7 @@ use Rattle.layouts.specs.Layout.{width, line_in, in_array, Known}
 use Rattle.layouts.specs.Rows.{SomeRowAt}
 use Rattle.layouts.specs.declared.Layout.{Layout}
 use Rattle.layouts.proofs.Buffers.{part_get, part-fits, part-part}
+use Rattle.definitions.specs.Direct.{status_number, fault_place}
 
 -- ---- sizes
 pub line-length : (r : Rule) (k : ℕ) (s : State) → length (line_in r k s) ≡ width r
@@ -121,7 +122,7 @@ module _ {l : Layout} {from : ℕ} {out work : List Word} (p : SomeRowAt l from 
       pub get-labels : (count : ℕ) → count ≡ nat_abs (get_or out (at + 2) (pos 0)) → take count (drop (at + record_size 0) out) ≡ words_of p.at.state.labels
       get-labels count c =
           let s = p.at.state in
-          rw at_place (part-part out (pos s.finish.status ∷ pos s.begun ∷ pos (length s.labels) ∷ pos s.finish.place ∷ []) (words_of s.labels) (replicate (q - length s.labels) (pos 0)) place (record_size q) (record_size 0) count p.at.record' refl (words-length s.labels ∙ sym (c ∙ ap nat_abs get-count)))
+          rw at_place (part-part out (pos (status_number s.finish) ∷ pos s.begun ∷ pos (length s.labels) ∷ pos (fault_place s.finish) ∷ []) (words_of s.labels) (replicate (q - length s.labels) (pos 0)) place (record_size q) (record_size 0) count p.at.record' refl (words-length s.labels ∙ sym (c ∙ ap nat_abs get-count)))
 
   -- the columns of the line are those of the row's variables
   pub get_vars : (vars : List Word) → values_in vars ≡ spread l.variables (bit_of l.lc) (values_in (drop (from + line_size 0) work)) → Alike p.rule.variables (LC (flow_of p.rule)) p.at.state.vars (values_in vars)

@@ -75,13 +75,11 @@ pub fn put_record(
     requires { (begun ≤ most_budget) × ((length labels.now ≤ quota) × ((quota ≤ most_quota) × (at + record_size quota ≤ length out.old))) }
     ensures { out.new ≡ over out.old at (record_words quota finish begun (length labels.now) labels.now) }
 {
-    let status = finish.status;
-    let place = finish.place;
     let count = labels.len();
-    out[at] = status as i32;
+    out[at] = finish.status() as i32;
     out[at + 1] = begun as i32;
     out[at + 2] = count as i32;
-    out[at + 3] = place as i32;
+    out[at + 3] = finish.place() as i32;
     let first = at + RECORD_HEAD;
     buffers::copy_at(out, first, labels);
     buffers::clear_at(out, first + count, quota - count);

@@ -9,12 +9,13 @@ use Rattle.definitions.specs.declared.Finish.{Finish}
 use Rattle.definitions.specs.Grammar.{levels}
 use Rattle.definitions.specs.Plan.{bit_of}
 use Rattle.definitions.specs.Meaning.{at_byte}
-use Rattle.definitions.specs.Direct.{faulted, Exit, to_block, to_round, to_stop, exit, Round, leave}
+use Rattle.definitions.specs.Direct.{Exit, to_block, to_round, to_stop, exit, Round, leave}
 use Rattle.columns.specs.OnPlan.{kept}
 use Rattle.rounds.specs.Run.{EndHere, leading_of, BlockHere, labels_in, BodyRun, round_of, BlockRun}
 use Rattle.std.specs.Prelude.{Ok, Err}
 use Rattle.rounds.specs.declared.blocks.Entry.{Entry}
 use Rattle.rounds.specs.declared.blocks.Leading.{Leading}
+use Rattle.definitions.specs.declared.Finish.TheVariants.{Faulted}
 
 -- where an ending leads is where the code's answer leads
 led : (o : Out Flaw Exit) (l : Leading) (n : ℕ) (vars labels : List Word) (W : ℕ → List Val → List Val → Round) → Ok l ≡ leading_of o → round_of (Ok l) n vars labels W ≡ leave o (values_in vars) (labels_in n labels) (λ t. W t (values_in vars) (labels_in n labels))
@@ -50,7 +51,7 @@ module _ (v : ℕ) (s : List ℕ) (e : Entry) (h : BlockHere v s e.place) (q cou
         record { round = λ W. rw (← a, ← w.way, ← k, ← w.place p refl) (led (exit h.what.ending (at_byte p) (values_in mid)) l n vars' labels' W (x here)); within = w.within; rest = w.rest }
 
     -- or the ending had a fault
-    pub block-failed : (k : Flaw) → ((g : EndHere levels v s p) → Err k ≡ leading_of (exit g.ending (at_byte p) (values_in mid))) → BlockRun v s e h q count vars labels (Err (faulted k)) n mid labels'
+    pub block-failed : (k : Flaw) → ((g : EndHere levels v s p) → Err k ≡ leading_of (exit g.ending (at_byte p) (values_in mid))) → BlockRun v s e h q count vars labels (Err (Faulted k)) n mid labels'
     unfolding here block-ending
     block-failed k x =
         let o = failed (exit h.what.ending (at_byte p) (values_in mid)) k (x here) in

@@ -16,7 +16,7 @@ use Rattle.definitions.specs.Columns.{flow_of, inputs_of, outputs_of}
 use Rattle.definitions.specs.Plan.{mask_of, bit_of, place_of, word_at, bodies_at, carried}
 use Rattle.definitions.specs.Spelling.{body_size, block_place}
 use Rattle.definitions.specs.Meaning.{at_byte}
-use Rattle.definitions.specs.Direct.{unfinished, Way, on, ended, steps, body_at, ending_at, origin, Exit, to_block, to_round, to_stop, exit, Round, jumped, finished, leave}
+use Rattle.definitions.specs.Direct.{Way, on, ended, steps, body_at, ending_at, origin, Exit, to_block, to_round, to_stop, exit, Round, jumped, finished, leave}
 use Rattle.definitions.proofs.Masks.{read_back}
 use Rattle.columns.specs.OnPlan.{kept, entered, handed, leaving, plan_walk}
 use Rattle.columns.specs.Proper.{Proper}
@@ -32,6 +32,9 @@ use Rattle.rounds.specs.Round.{Entered, ended_as, jump_to, Walked, Going}
 use Rattle.rounds.proofs.Keeping.{kept_same}
 use Rattle.rounds.proofs.Placing.{place_is}
 use Rattle.rounds.proofs.Longer.{block-over}
+use Rattle.definitions.specs.declared.Finish.TheVariants.{Unfinished}
+use Rattle.definitions.proofs.Ends.{above-ended, no-both}
+use Rattle.definitions.specs.Direct.{status_number}
 
 module _ (p : List ℕ) (a : Accepted p) where
   abbrev r : Rule
@@ -115,7 +118,7 @@ module _ (p : List ℕ) (a : Accepted p) where
               let e = f (λ x _ _. jumped x [] []) in
               let same : t ≡ u = cc in
               rw same (ok.goto-below b u h (n.goes u refl))
-          exits env ls (value (to_round u)) n f = let e = f (λ _ _ _. finished unfinished []) in let z : ◌≡◌ {A = ℕ} 0 1 = cc in absurd (omega arith)
+          exits env ls (value (to_round u)) n f = let e = f (λ _ _ _. finished Unfinished []) in let z : ◌≡◌ {A = ℕ} 0 1 = cc in absurd (omega arith)
           exits env ls (value to_stop) n f = let e = f (λ x _ _. jumped x [] []) in let z : ◌≡◌ {A = ℕ} 0 1 = cc in absurd (omega arith)
           exits env ls (fault x) n f = let e = f (λ x _ _. jumped x [] []) in let z : ◌≡◌ {A = ℕ} 0 1 = cc in absurd (omega arith)
 
@@ -124,13 +127,13 @@ module _ (p : List ℕ) (a : Accepted p) where
           go (ended how ls) i = let e = goes (λ x _ _. jumped x [] []) ∙ ap (λ o. leaving r b o (block_of r b).ending (λ x _ _. jumped x [] [])) i in let z : ◌≡◌ {A = ℕ} 0 1 = cc in absurd (omega arith)
 
       -- a row that has ended does not go on
-      pub ends : (how : Finish) → ((W : ℕ → List Val → List Val → Round) → round_of w k vars' labels' W ≡ finished how (labels_in k labels')) → 0 < how.status
+      pub ends : (how : Finish) → ((W : ℕ → List Val → List Val → Round) → round_of w k vars' labels' W ≡ finished how (labels_in k labels')) → 0 < status_number how
       ends how g = go way (steps-kept q (λ _. Unit {0}) (λ _. Unit {0}) (λ _. Unit {0}) (λ _ _ _ _ _ _ _ _. tt) (λ _ _ _ _ _ _ _ _ _ _. tt) (block_of r b).body (body_at origin r b) (entered r b (values_in vars)) (labels_in count labels) (λ _ _. tt) tt tt) refl
         where
           W : ℕ → List Val → List Val → Round
           W x env ls = jumped x env ls
 
-          go : (o : Way) → KeptWay (λ _. Unit {0}) (λ _. Unit {0}) o → way ≡ o → 0 < how.status
+          go : (o : Way) → KeptWay (λ _. Unit {0}) (λ _. Unit {0}) o → way ≡ o → 0 < status_number how
           go (on env ls) kept i =
               let l = leave-kept q (λ _. Unit {0}) (λ _. Unit {0}) (λ _. Unit {0}) (λ _ _ _ _ _ _ _ _. tt) (λ _ _ _ _ _ _ _ _ _ _. tt) (exit (block_of r b).ending (ending_at origin r b) env) (handed r b env) ls (λ u. W u (handed r b env) ls) tt tt (λ u. (tt, tt)) in
               let e : finished how (labels_in k labels') ≡ leave (exit (block_of r b).ending (ending_at origin r b) env) (handed r b env) ls (λ u. W u (handed r b env) ls) =
@@ -146,7 +149,7 @@ module _ (p : List ℕ) (a : Accepted p) where
       unfolding plan_walk
       goto-step f t g = sym (next-round (λ t env ls. plan_walk f r q t env ls)) ∙ ap (λ x. round_of x k vars' labels' (λ t env ls. plan_walk f r q t env ls)) g
 
-      pub jump-step : (f t : ℕ) → w ≡ Ok (Leading.Jump t) → plan_walk (suc f) r q b (values_in vars) (labels_in count labels) ≡ ended_as unfinished t (labels_in k labels') (values_in vars')
+      pub jump-step : (f t : ℕ) → w ≡ Ok (Leading.Jump t) → plan_walk (suc f) r q b (values_in vars) (labels_in count labels) ≡ ended_as Unfinished t (labels_in k labels') (values_in vars')
       unfolding plan_walk ended_as
       jump-step f t g = sym (next-round (λ t env ls. plan_walk f r q t env ls)) ∙ ap (λ x. round_of x k vars' labels' (λ t env ls. plan_walk f r q t env ls)) g
 
@@ -154,7 +157,7 @@ module _ (p : List ℕ) (a : Accepted p) where
       unfolding plan_walk ended_as
       end_step f x how g =
           sym (next-round (λ t env ls. plan_walk f r q t env ls)) ∙ g (λ t env ls. plan_walk f r q t env ls)
-          ∙ rw (ne_eqb how.status 0 (λ e. let l = ends how g in omega arith))
+          ∙ rw (above-ended how (ends how g))
 
 -- ---- the loop of a round
 module _ {p : List ℕ} {q block count : ℕ} {vars₀ labels₀ : List Word} where
@@ -178,7 +181,7 @@ module _ {p : List ℕ} {q block count : ℕ} {vars₀ labels₀ : List Word} wh
     fits = labels-within p a b g.below ev es said passed
 
     pub walked_end : (how : Finish) → ((W : ℕ → List Val → List Val → Round) → round_of w k vars' labels' W ≡ finished how (labels_in k labels')) → Walked p q block count vars₀ labels₀ (record { finish = how; block = b; count = k }) vars' labels'
-    walked_end how i = record { round = sym (end_step p a b g.below ev es said passed (left - 1) b how i) ∙ more; unended = λ z. absurd (omega (arith, eqb-true how.status 0 z, ends p a b g.below ev es said passed how i)); within = fits }
+    walked_end how i = record { round = sym (end_step p a b g.below ev es said passed (left - 1) b how i) ∙ more; unended = λ z. no-both how z (above-ended how (ends p a b g.below ev es said passed how i)); within = fits }
 
     pub walked-jump : (t : ℕ) → w ≡ Ok (Leading.Jump t) → Walked p q block count vars₀ labels₀ (jump_to t k) vars' labels'
     walked-jump t i = record { round = sym (jump-step p a b g.below ev es said passed (left - 1) t i) ∙ more; unended = λ _. refl; within = fits }

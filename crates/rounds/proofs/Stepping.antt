@@ -16,7 +16,7 @@ use Rattle.definitions.specs.Rule.{Expr, Set, Emit, End, Block}
 use Rattle.definitions.specs.Grammar.{Got, got, then, one, variable_at, depth, levels, expr_at, set_at, emit_at, end_at, with_first, StmtTag, set_tag, emit_tag, no_stmt, stmt_tag, block_body, block_from}
 use Rattle.definitions.specs.Spelling.{stmt_size, in_turn, body_size}
 use Rattle.definitions.specs.Meaning.{at_byte, eval}
-use Rattle.definitions.specs.Direct.{on, ended, onward, faulted, quota_full, step, steps}
+use Rattle.definitions.specs.Direct.{on, ended, onward, step, steps}
 use Rattle.definitions.specs.declared.Flaw.{Flaw}
 use Rattle.definitions.specs.declared.Finish.{Finish}
 use Rattle.definitions.proofs.Values.{values_length, values-set, values-append}
@@ -31,6 +31,7 @@ use Rattle.evaluators.proofs.Answers.{is-got, value-is, fault-is}
 use Rattle.evaluators.proofs.Evaluating.{expr_there}
 use Rattle.rounds.proofs.Ending.{end-there}
 use Rattle.definitions.specs.declared.Reason.TheVariants.{BadTag, EndsEarly}
+use Rattle.definitions.specs.declared.Finish.TheVariants.{Faulted, QuotaFull}
 
 -- what is read ends past where it begins
 expr_grows : (d v : ℕ) (s : List ℕ) (at : ℕ) (e : Expr) (n : ℕ) → expr_at d v s at ≡ got e n → (at < length s) × (at < n)
@@ -120,9 +121,9 @@ module _ {v : ℕ} {s : List ℕ} {at : ℕ} (h : StmtHere v s at) {q count : �
       let same = u.0 in
       record { way = rw (w.is, u.1, values-set vars (get_or s (at + 1) 0) z); place = λ p r. cc; grows = omega arith; within = few; rest = refl }
 
-  pub set-fault : (k : Flaw) → get_or s at 0 ≡ 0x20 → answer (expr_at depth v s (at + 2)) (at + 2) vars ≡ Err k → StmtRun h.what at h.next q count vars labels (Err (faulted k)) count vars labels
+  pub set-fault : (k : Flaw) → get_or s at 0 ≡ 0x20 → answer (expr_at depth v s (at + 2)) (at + 2) vars ≡ Err k → StmtRun h.what at h.next q count vars labels (Err (Faulted k)) count vars labels
   unfolding step
-  set-fault k e a = let w = set_here v s at h e in ends (faulted k) (rw (w.is, faulty w.reads (at + 2) vars k a))
+  set-fault k e a = let w = set_here v s at h e in ends (Faulted k) (rw (w.is, faulty w.reads (at + 2) vars k a))
 
   -- ---- an emit
   pub emit_on : (z : ℤ) (m : ℕ) → (get_or s at 0 ≡ 0x20 → ⊥) → answer (expr_at depth v s (at + 1)) (at + 1) vars ≡ Ok (z, m) → count < q → q ≤ length labels → StmtRun h.what at h.next q count vars labels (Ok m) (count + 1) vars (set labels count z)
@@ -135,17 +136,17 @@ module _ {v : ℕ} {s : List ℕ} {at : ℕ} (h : StmtHere v s at) {q count : �
       let size : length (labels_in count labels) ≡ count = values_length (take count labels) ∙ length-take-le count labels (omega arith) in
       record { way = rw (w.is, u.1, size, lt-ltb count q l, more); place = λ p r. cc; grows = omega arith; within = omega arith; rest = drop-set-lt (count + 1) labels count z (omega arith) }
 
-  pub emit_full : (z : ℤ) (m : ℕ) → (get_or s at 0 ≡ 0x20 → ⊥) → answer (expr_at depth v s (at + 1)) (at + 1) vars ≡ Ok (z, m) → q ≤ count → q ≤ length labels → StmtRun h.what at h.next q count vars labels (Err quota_full) count vars labels
+  pub emit_full : (z : ℤ) (m : ℕ) → (get_or s at 0 ≡ 0x20 → ⊥) → answer (expr_at depth v s (at + 1)) (at + 1) vars ≡ Ok (z, m) → q ≤ count → q ≤ length labels → StmtRun h.what at h.next q count vars labels (Err QuotaFull) count vars labels
   unfolding step
   emit_full z m f a l room =
       let w = emit_here v s at h f in
       let u = valued w.reads (at + 1) vars z m a in
       let size : length (labels_in count labels) ≡ count = values_length (take count labels) ∙ length-take-le count labels (omega arith) in
-      ends quota_full (rw (w.is, u.1, size, le-ltb count q l))
+      ends QuotaFull (rw (w.is, u.1, size, le-ltb count q l))
 
-  pub emit_fault : (k : Flaw) → (get_or s at 0 ≡ 0x20 → ⊥) → answer (expr_at depth v s (at + 1)) (at + 1) vars ≡ Err k → StmtRun h.what at h.next q count vars labels (Err (faulted k)) count vars labels
+  pub emit_fault : (k : Flaw) → (get_or s at 0 ≡ 0x20 → ⊥) → answer (expr_at depth v s (at + 1)) (at + 1) vars ≡ Err k → StmtRun h.what at h.next q count vars labels (Err (Faulted k)) count vars labels
   unfolding step
-  emit_fault k g a = let w = emit_here v s at h g in ends (faulted k) (rw (w.is, faulty w.reads (at + 1) vars k a))
+  emit_fault k g a = let w = emit_here v s at h g in ends (Faulted k) (rw (w.is, faulty w.reads (at + 1) vars k a))
 
 -- what a call of the evaluator asks
 module _ (v : ℕ) (s : List ℕ) (at : ℕ) (h : StmtHere v s at) where

@@ -5,13 +5,14 @@ use Rattle.definitions.specs.Rule.{size}
 use Rattle.definitions.specs.Grammar.{longest}
 use Rattle.definitions.specs.Columns.{flow_of, inputs_of, outputs_of}
 use Rattle.definitions.specs.Plan.{mask_of, place_of, carried}
-use Rattle.definitions.specs.Direct.{unfinished, goes_on, Round, jumped, finished}
+use Rattle.definitions.specs.Direct.{goes_on, Round, jumped, finished}
 use Rattle.columns.specs.OnPlan.{plan_walk}
 use Rattle.plans.specs.Accepted.{rule_in}
 use Rattle.definitions.specs.declared.Finish.{Finish}
 use Rattle.rounds.specs.Run.{Prefix, labels_in}
 use Rattle.rounds.specs.declared.blocks.Entry.{Entry}
 use Rattle.rounds.specs.declared.RoundEnd.{RoundEnd}
+use Rattle.definitions.specs.declared.Finish.TheVariants.{Unfinished}
 
 -- the bytes of a rule lie at the start of an array that holds the longest
 abbrev pub Lies : List ℕ → List ℕ → Type 0
@@ -29,12 +30,12 @@ ended_as how block labels vars = cond (goes_on how) (jumped block vars labels) (
 
 -- the answer to a jump
 abbrev pub jump_to : ℕ → ℕ → RoundEnd
-jump_to block count = record { finish = unfinished; block = block; count = count }
+jump_to block count = record { finish = Unfinished; block = block; count = count }
 
 -- the round that was walked
 pub record Walked (plan : List ℕ) (q block count : ℕ) (vars labels : List Word) (r : RoundEnd) (vars' labels' : List Word) : Type 0 where
   pub round : ended_as r.finish r.block (labels_in r.count labels') (values_in vars') ≡ plan_walk (size (rule_in plan)) (rule_in plan) q block (values_in vars) (labels_in count labels)
-  pub unended : goes_on r.finish ≡ true → r.finish ≡ unfinished
+  pub unended : goes_on r.finish ≡ true → r.finish ≡ Unfinished
   pub within : r.count ≤ q
 
 -- on the way: the walk that is left, from block b on, gives what the whole walk gives

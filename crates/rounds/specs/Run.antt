@@ -8,11 +8,12 @@ use Rattle.definitions.specs.Grammar.{got, end_at, block_from, levels}
 use Rattle.definitions.specs.Plan.{bit_of}
 use Rattle.definitions.specs.Spelling.{body_size}
 use Rattle.definitions.specs.Meaning.{Where, at_byte}
-use Rattle.definitions.specs.Direct.{stopped, Way, on, ended, step, steps, Exit, to_block, to_round, to_stop, exit, Round, jumped, finished, leave}
+use Rattle.definitions.specs.Direct.{Way, on, ended, step, steps, Exit, to_block, to_round, to_stop, exit, Round, jumped, finished, leave}
 use Rattle.readers.specs.Readings.{stmt_at}
 use Rattle.columns.specs.OnPlan.{kept}
 use Rattle.rounds.specs.declared.blocks.Entry.{Entry}
 use Rattle.rounds.specs.declared.blocks.Leading.{Leading}
+use Rattle.definitions.specs.declared.Finish.TheVariants.{Stopped}
 
 -- ---- where a rule lies
 
@@ -92,7 +93,7 @@ Passage = Result Leading Finish
 abbrev pub round_of : Passage → ℕ → List Word → List Word → (ℕ → List Val → List Val → Round) → Round
 round_of (Ok (Leading.Goto t)) k vars labels W = W t (values_in vars) (labels_in k labels)
 round_of (Ok (Leading.Jump t)) k vars labels W = jumped t (values_in vars) (labels_in k labels)
-round_of (Ok Leading.Stop) k vars labels W = finished stopped (labels_in k labels)
+round_of (Ok Leading.Stop) k vars labels W = finished Stopped (labels_in k labels)
 round_of (Err how) k vars labels W = finished how (labels_in k labels)
 
 -- a block is left: its ending, which stands at p, sees all that the block has, and what it leads to gets the variables of a set

@@ -8,7 +8,7 @@ ghost use Rattle.columns.specs.OnPlan.{kept};
 ghost use Rattle.evaluators.specs.Answer.{Sized};
 ghost use Rattle.rounds.specs.Run.{EndHere, leading_of, StmtHere, StmtRun, BlockHere, BodyRun, BlockRun};
 
-use definitions::{DEPTH, Finish, Flaw, LEVELS, faulted, quota_full};
+use definitions::{DEPTH, Finish, Flaw, LEVELS};
 use evaluators::tokens::skip;
 use evaluators::{Rule, Vars, eval_cond, eval_expr};
 
@@ -71,14 +71,14 @@ fn step(
     let next = at + 1;
     if s[at] == 0x20 {
         let x = s[next] as usize;
-        let (z, end) = eval_expr(s, at + 2, v, DEPTH, vars).map_err(faulted)?;
+        let (z, end) = eval_expr(s, at + 2, v, DEPTH, vars).map_err(Finish::Faulted)?;
         vars[x] = z;
         Ok(end)
     } else {
         // 21: nothing else can stand here
-        let (z, end) = eval_expr(s, next, v, DEPTH, vars).map_err(faulted)?;
+        let (z, end) = eval_expr(s, next, v, DEPTH, vars).map_err(Finish::Faulted)?;
         if quota <= *count {
-            return Err(quota_full());
+            return Err(Finish::QuotaFull);
         }
         labels[*count] = z;
         *count += 1;
@@ -147,7 +147,7 @@ pub fn run_block(
 {
     keep(vars, v, e.inputs);
     let place = run_body(s, e.place, v, quota, vars, labels, count)?;
-    let way = run_end(s, place, v, LEVELS, vars).map_err(faulted)?;
+    let way = run_end(s, place, v, LEVELS, vars).map_err(Finish::Faulted)?;
     keep(vars, v, e.outputs);
     Ok(way)
 }

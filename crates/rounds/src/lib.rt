@@ -10,7 +10,7 @@ ghost use Rattle.plans.specs.Accepted.{rule_in, Accepted};
 ghost use Rattle.rounds.specs.Round.{Lies, Entered, jump_to, Walked};
 
 use blocks::{Entry, Leading, run_block};
-use definitions::{Finish, stopped, unfinished};
+use definitions::Finish;
 pub use evaluators::Rule;
 use evaluators::Vars;
 
@@ -43,7 +43,7 @@ fn jump_to(block: u8, count: usize) -> RoundEnd
     ensures { result ≡ jump_to block count }
 {
     RoundEnd {
-        finish: unfinished(),
+        finish: Finish::Unfinished,
         block,
         count,
     }
@@ -74,7 +74,7 @@ pub fn round(
                 continue;
             }
             Ok(Leading::Jump(t)) => return jump_to(t, n),
-            Ok(Leading::Stop) => stopped(),
+            Ok(Leading::Stop) => Finish::Stopped,
             Err(how) => how,
         };
         return RoundEnd {

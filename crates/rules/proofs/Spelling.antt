@@ -13,7 +13,7 @@ use Rattle.definitions.specs.Calls.{to_read, to_write, Wrote}
 use Rattle.definitions.specs.Spelling.{in_turn, block_bytes, bytes_of}
 use Rattle.definitions.specs.Values.{Val}
 use Rattle.definitions.specs.Direct.{start, after}
-use Rattle.definitions.specs.Faulting.{Among, Tells}
+use Rattle.definitions.specs.Faulting.{Among, Telling}
 use Rattle.definitions.specs.Limits.{Every, BlockKeeps, Limits}
 use Rattle.definitions.specs.Refusals.{Reply}
 use Rattle.definitions.proofs.Faults.{run_tells}
@@ -78,7 +78,7 @@ pub one_writing : (s s' : List ℕ) → Bytes s → Bytes s' → (r : Rule) (n n
 one_writing s s' b b' r n n' e e' = read-bytes s r n e b ∙ sym (read-bytes s' r n' e' b')
 
 -- 02, K4: of accepted bytes, a row tells where the operator at fault stands in them, and 0 if none is
-pub row_tells : (s : List ℕ) → Bytes s → (r : Rule) (n : ℕ) → rule_of s ≡ got r n → (q rounds : ℕ) (args : List Val) → Tells (Among 0 s) (after r q rounds (start r args)).finish
+pub row_tells : (s : List ℕ) → Bytes s → (r : Rule) (n : ℕ) → rule_of s ≡ got r n → (q rounds : ℕ) (args : List Val) → Telling (Among 0 s) (after r q rounds (start r args)).finish
 row_tells s small r n e q rounds args = rw (read-bytes s r n e small) (run_tells r q rounds args)
 
 -- ---- the calls

@@ -12,7 +12,7 @@ ghost use Rattle.tables.specs.Table.{budgets_in, RowMayBegin, Turned, Table, Row
 ghost use Rattle.tables.specs.Runs.{Allowed, ToStart, Started, RowsRun};
 
 use carries::{Spot, carry};
-use definitions::{Finish, goes_on};
+use definitions::Finish;
 use layouts::{Layout, Line, fetch, put_line, put_record, read_row, record_at};
 use rounds::Rule;
 
@@ -94,7 +94,7 @@ fn turn(
     let at = record_at(row.row, l.quota);
     let finish = c.finish;
     put_record(out, at, l.quota, finish, begun, &labels[..c.count]);
-    if goes_on(finish) {
+    if finish.goes_on() {
         let line = Line {
             row: row.row,
             block: c.block,
@@ -144,7 +144,7 @@ fn pass(
         if top < s.begun {
             top = s.begun;
         }
-        if goes_on(s.finish) {
+        if s.finish.goes_on() {
             kept += 1;
         }
         i += 1;

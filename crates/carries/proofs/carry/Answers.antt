@@ -7,7 +7,7 @@ use Rattle.carries.proofs.carry.Goals as goal
 pub loop-n-init : goal.loop-n-init
 loop-n-init c =
     let a = c.args in
-    (refl, λ k. rw c.unfinished-open.ensures (progress_none _ a.quota a.spot.block a.spot.count a.labels.now a.vars.now k (omega arith)))
+    (refl, λ k. (progress_none _ a.quota a.spot.block a.spot.count a.labels.now a.vars.now k (omega arith)))
 
 pub returns-then-not-goes_on : goal.returns-then-not-goes_on
 returns-then-not-goes_on c =

@@ -8,5 +8,6 @@ use Rattle.layouts.proofs.put_record.Goals as goal
 pub returns : goal.returns
 returns c =
     let a = c.args in
-    record_law a.out.now a.at a.finish.status a.begun (length a.labels.now) a.finish.place a.labels.now _ c.copy_at.new.dst c.clear_at.new.dst (omega arith) (omega arith) (omega arith) (omega arith) refl (omega arith)
-    c.copy_at.ensures c.clear_at.ensures
+    rw (← c.status.ensures, ← c.place.ensures)
+    (record_law a.out.now a.at c.status.result a.begun (length a.labels.now) c.place.result a.labels.now _ c.copy_at.new.dst c.clear_at.new.dst (omega arith) (omega arith) (omega arith) (omega arith) refl (omega arith)
+    c.copy_at.ensures c.clear_at.ensures)

@@ -3,11 +3,11 @@ use Prim.Native.Nat.{◌+◌, ◌-◌}
 use mathlib.Core.Path.{◌≡◌, refl}
 use native.Mathlib.Omega.{arith}
 use lib.ListN.{get_or}
-use Rattle.definitions.specs.Direct.{stopped}
 use Rattle.plans.proofs.Carried.{head-fits, carried-in, carried-proper, at-variables}
 use Rattle.rounds.proofs.Rounding.{here, started, spent, walked_end, walked-jump, walked_on}
 use Rattle.rounds.proofs.round.Goals as goal
 use Rattle.rounds.proofs.round.Goals.{in-Ok-Stop, in-Err}
+use Rattle.definitions.specs.declared.Finish.TheVariants.{Stopped}
 
 pub bounds-plan-1 : goal.bounds-plan-1
 bounds-plan-1 c = omega (arith, head-fits _ c.requires.accepted.0)
@@ -46,7 +46,7 @@ pub returns-in-loop : goal.returns-in-loop
 returns-in-loop c =
     let ended = walked_end c.requires.accepted.0 c.loop.invariant (omega arith) refl c.requires.accepted.1.0.0 c.entry_of-e.ensures c.run_block.ensures in
     elim c.match-run_block.branch [
-      | in-Ok-Stop w ↦ rw (w.finish-is, w.stopped-finish.ensures) (ended stopped (λ W. rw (w.in-Ok-Stop.is, w.in-Ok-Stop.field-0-is)))
+      | in-Ok-Stop w ↦ rw (w.finish-is) (ended Stopped (λ W. rw (w.in-Ok-Stop.is, w.in-Ok-Stop.field-0-is)))
       | in-Err w ↦ rw w.finish-is (ended _ (λ W. rw w.in-Err.is))
     ]
 

@@ -56,7 +56,7 @@ pub returns-then-quota-count : goal.returns-then-quota-count
 returns-then-quota-count c =
     λ h.
     let v = value-of _ _ _ c.map_err-else-s-at-eq32.ensures.cases c.in_ok-z-2.was in
-    rw c.quota_full.ensures (laws.emit_full h c.requires.count_le_quota.0 _ _ c.if-s-at-eq32.false (told c.eval_expr-else-s-at-eq32.ensures v) c.if-quota-count.true c.requires.count_le_quota.1)
+    (laws.emit_full h c.requires.count_le_quota.0 _ _ c.if-s-at-eq32.false (told c.eval_expr-else-s-at-eq32.ensures v) c.if-quota-count.true c.requires.count_le_quota.1)
 
 pub returns-else-quota-count : goal.returns-else-quota-count
 returns-else-quota-count c =
