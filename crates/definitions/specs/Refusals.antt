@@ -1,5 +1,6 @@
 -- 01, Reply numbers: why bad input is refused, and what a call answers.
-use Rattle.std.specs.Prelude.{ℕ, Result, Ok, Err}
+use Rattle.std.specs.Prelude.{ℕ, List, [], ◌∷◌, ◌++◌, Result, Ok, Err}
+use Rattle.std.specs.Fmt.{decimal}
 use Rattle.definitions.specs.declared.Reason.{Reason}
 use Rattle.definitions.specs.declared.Reason.TheVariants.{FileSize, PageCheck, PageForm, BadHeader, BadTag, BadVariable, BadTarget, TooDeep, EndsEarly, BytesAfter, TooLong, NoRoom, Misfit, OverLimit, NotPlan, GotoCycle}
 use Rattle.definitions.specs.declared.Refusal.{Refusal}
@@ -29,3 +30,7 @@ Reply = Result ℕ Refusal
 
 abbrev pub refusal : Reason → ℕ → Reply
 refusal k p = Err (record { reason = k; place = p })
+
+-- a refusal as it is printed: `refused `, the number and the place
+abbrev pub refusal_shown : Refusal → List ℕ
+refusal_shown f = (114 ∷ 101 ∷ 102 ∷ 117 ∷ 115 ∷ 101 ∷ 100 ∷ 32 ∷ []) ++ (decimal (number_of f.reason) ++ ((32 ∷ []) ++ decimal f.place))

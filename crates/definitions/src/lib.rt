@@ -1,9 +1,11 @@
 // The answers of the calls, and the limits. What each case stands for is said in specs/.
 #![tactic(auto)]
 
-ghost use Rattle.std.specs.Prelude.{◌≡◌};
+ghost use Rattle.std.specs.Prelude.{◌≡◌, Some};
 ghost use Rattle.definitions.specs.Direct.{status_number, fault_place, goes_on};
-ghost use Rattle.definitions.specs.Refusals.{number_of};
+ghost use Rattle.definitions.specs.Refusals.{number_of, refusal_shown};
+
+use std::fmt;
 
 // The most bytes that a rule has, and a plan.
 pub const LONGEST: usize = 4064;
@@ -129,6 +131,14 @@ impl Reason {
 pub struct Refusal {
     pub reason: Reason,
     pub place: usize,
+}
+
+impl fmt::Display for Refusal {
+    ghost output = { λ f. Some (refusal_shown f) };
+
+    fn fmt<W: fmt::Write>(&self, f: &mut fmt::Formatter<W>) -> fmt::Result {
+        write!(f, "refused {} {}", self.reason.number(), self.place)
+    }
 }
 
 // Where a row's part lies: from a word of the result buffer on, or from one of the working buffer on.

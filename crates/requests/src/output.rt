@@ -12,7 +12,7 @@ pub fn reply<W: Write>(to: &mut W, r: Result<usize, Refusal>) -> io::Result<()>
 {
     match r {
         Ok(n) => write!(to, "ok {n}"),
-        Err(f) => write!(to, "refused {} {}", f.reason.number(), f.place),
+        Err(f) => write!(to, "{f}"),
     }
 }
 
