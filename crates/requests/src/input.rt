@@ -53,7 +53,8 @@ pub fn number<R: Read>(from: &mut R) -> Result<u32, Unserved>
 
 // How many elements a part of a request has.
 pub fn size<R: Read>(from: &mut R) -> Result<usize, Unserved>
-    ensures { IfOk result (λ n. n ≤ MOST) }
+    ensures value { IfOk result (λ n. IfSome (R.remaining from.old) (λ xs. n ≡ number_in xs)) }
+    ensures bound { IfOk result (λ n. n ≤ MOST) }
 {
     let n = number(from)? as usize;
     if MOST < n {
@@ -69,6 +70,7 @@ pub fn part<'a, T, R: Read, F: FnOnce(&mut R, &mut [T]) -> Result<(), Unserved>>
     fill: F,
 ) -> Result<&'a [T], Unserved>
     requires { (r : _) (b : _) → length b.now ≤ MOST → F.pre fill r b }
+    ensures { IfOk result (λ elements. IfSome (R.remaining from.old) (λ xs. length elements.now ≡ number_in xs)) }
 {
     let n = size(from)?;
     let elements = &mut buf[..n];
