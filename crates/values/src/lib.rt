@@ -10,6 +10,11 @@ ghost use Rattle.values.specs.Words.{constants_in};
 
 use definitions::Kind;
 
+// The corner of division: the first of these by the second has no quotient in range.
+const LEAST: i32 = i32::MIN;
+
+const MINUS_ONE: i32 = -1;
+
 // ---- the comparisons
 
 pub fn less(x: i32, y: i32) -> bool
@@ -54,19 +59,24 @@ pub fn divide(x: i32, y: i32) -> Result<i32, Kind>
     ensures { result ≡ outcome_of (quotient x y) }
 {
     if y == 0 {
-        return Err(Kind::ZeroDivisor);
+        Err(Kind::ZeroDivisor)
+    } else if x == LEAST && y == MINUS_ONE {
+        Err(Kind::OutOfRange)
+    } else {
+        Ok(x / y)
     }
-    x.checked_div(y).ok_or(Kind::OutOfRange)
 }
 
-// The least value by -1 leaves 0, though that quotient is out of range.
 pub fn remainder(x: i32, y: i32) -> Result<i32, Kind>
     ensures { result ≡ outcome_of (remainder x y) }
 {
     if y == 0 {
-        return Err(Kind::ZeroDivisor);
+        Err(Kind::ZeroDivisor)
+    } else if x == LEAST && y == MINUS_ONE {
+        Ok(0)
+    } else {
+        Ok(x % y)
     }
-    Ok(x.wrapping_rem(y))
 }
 
 // ---- by their tags
