@@ -1,5 +1,5 @@
 -- What an accepted plan's bytes say of its rows' layout, and that its rule is one the run can rest on. Assumes nothing.
-use mathlib.Core.Path.{◌≡◌, sym, ap, ◌∙◌}
+use mathlib.Core.Path.{◌≡◌, refl, sym, ap, ◌∙◌}
 use Prim.Native.Nat.{ℕ, ◌≤◌, min}
 use native.Mathlib.Omega.{arith}
 use mathlib.Core.List.{List}
@@ -21,7 +21,9 @@ use Rattle.plans.specs.Taken.{Taking}
 use Rattle.rounds.specs.Round.{Lies}
 use Rattle.plans.proofs.Carried.{carried-rule, carried-in, head-fits, at-variables, at-arguments, at-lc, columns-counted}
 use Rattle.columns.specs.Proper.{Proper}
-use Rattle.layouts.specs.Layout.{width, Known}
+use Rattle.layouts.specs.Layout.{Known}
+use Rattle.layouts.specs.declared.Layout.{Layout}
+use Rattle.batches.specs.Tests.{LaidOut}
 use Rattle.std.specs.Prelude.{Option, Some}
 
 -- the rule of an accepted plan is proper
@@ -45,10 +47,7 @@ module _ {plan : List ℕ} (a : Accepted plan) where
   pub variables-few : get_or plan 1 0 ≤ most_variables
   variables-few = omega (arith, at-variables plan a, (carried-in plan a).variables-to)
 
-  pub arguments-few : get_or plan 2 0 ≤ most_variables
-  arguments-few = omega (arith, at-arguments plan a, (carried-in plan a).arguments-to, (carried-in plan a).variables-to)
-
-  -- what the code reads of the plan is what its rows' layout depends on
+  -- what the code reads of the plan is its rows' layout
   module _ (lc place : ℕ) (el : lc ≡ word_at plan 4) (ep : place ≡ count_to (get_or plan 1 0) (bit_of lc)) where
     place_is : place ≡ columns r
     place_is = columns-counted plan a lc place el ep
@@ -56,20 +55,26 @@ module _ {plan : List ℕ} (a : Accepted plan) where
     pub place-few : place ≤ most_columns
     place-few = omega (arith, place_is, count_le r.variables (LC (flow_of r)), (carried-in plan a).variables-to)
 
-    module _ (size : ℕ) (es : size ≡ line_size place) where
-      pub size_is : size ≡ width r
-      size_is = es ∙ ap line_size place_is
+    pub laid_out : (size quota : ℕ) → size ≡ line_size place → LaidOut r quota (record { variables = get_or plan 1 0; arguments = get_or plan 2 0; lc = lc; size = size; quota = quota })
+    laid_out size quota es = record {
+      variables = at-variables plan a;
+      arguments = at-arguments plan a;
+      mask = el ∙ at-lc plan a;
+      size' = es ∙ ap line_size place_is;
+      quota' = refl;
+    }
 
-      pub size_few : size ≤ line_size most_columns
-      size_few = omega (arith, place-few)
+  module _ {l : Layout} {quota : ℕ} (k : LaidOut r quota l) where
+    pub few : (l.arguments ≤ most_variables) × (l.size ≤ line_size most_columns)
+    few = (omega (arith, k.arguments, (carried-in plan a).arguments-to, (carried-in plan a).variables-to), omega (arith, k.size', count_le r.variables (LC (flow_of r)), (carried-in plan a).variables-to))
 
-      pub known : (quota : ℕ) → quota ≤ most_quota → Known r (record { variables = get_or plan 1 0; arguments = get_or plan 2 0; lc = lc; size = size; quota = quota })
-      known quota h = record {
-        proper = proper (carried plan) r a.next (carried-rule plan a);
-        blocks = (carried-in plan a).blocks_to;
-        variables = at-variables plan a;
-        arguments = at-arguments plan a;
-        mask = el ∙ at-lc plan a;
-        size' = size_is;
-        quota = h;
-      }
+    pub known : quota ≤ most_quota → Known r l
+    known h = record {
+      proper = proper (carried plan) r a.next (carried-rule plan a);
+      blocks = (carried-in plan a).blocks_to;
+      variables = k.variables;
+      arguments = k.arguments;
+      mask = k.mask;
+      size' = k.size';
+      quota = omega (arith, k.quota');
+    }

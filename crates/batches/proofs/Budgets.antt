@@ -1,19 +1,21 @@
 -- The first budget over the limit, and budgets of which none is. Assumes nothing.
 use Prim.Native.Nat.{ℕ, zero, suc, ◌+◌, ◌≤◌, ◌<◌}
 use native.Mathlib.Omega.{arith}
-use mathlib.Core.Path.{◌≡◌, refl, sym, ap, ◌∙◌}
-use mathlib.Core.Bool.{Bool, true, false}
+use mathlib.Core.Path.{◌≡◌, refl, ◌∙◌}
+use mathlib.Core.Bool.{Bool, true, false, cond}
 use mathlib.Core.Logic.{◌⊎◌, inl, inr}
 use mathlib.Core.List.{List, [], ◌∷◌}
 use lib.Dec.{eqb, ltb}
-use lib.ListN.{length, get_or, drop}
-use lib.Seq.{drop-cons, drop-length}
+use lib.ListN.{length, get_or}
 use borrow.Author.Tests.{ltb-true, ltb-false, lt-ltb, le-ltb, eqb-true, eqb-false, eq-eqb, ne_eqb}
 use Rattle.definitions.specs.Batch.{Budgets, common, each, budget_of}
 use Rattle.definitions.specs.Calls.{most_budget, brought, as_many, first_over, some_over}
-use Rattle.batches.specs.Tests.{passes, fails, over_budget}
+use Rattle.batches.specs.Tests.{over_place}
+use Rattle.std.specs.List.{position}
+use Rattle.std.specs.Bool.{then_some}
+use Rattle.std.specs.Prelude.{Some, None}
+use Rattle.std.proofs.lemmas.List.Recursion.{is_position_or_len}
 use Rattle.batches.specs.Replies.{Counted, for_all, for_each, NoneOver, FirstOver}
-use Rattle.definitions.specs.declared.Reason.TheVariants.{OverLimit}
 
 -- ---- the first over the limit
 
@@ -97,38 +99,24 @@ counted_or rows (each Ns) = go (eqb (length Ns) rows) refl
     go true e = inl (for_each Ns (eqb-true (length Ns) rows e))
     go false e = inr (λ c. eqb-false (length Ns) rows e (as_many_lem c))
 
--- ---- the search, one budget after the other
-pub seek_start : (Ns : List ℕ) → first_over Ns ≡ 0 + first_over (drop 0 Ns)
-seek_start Ns = omega arith
-
-module _ (Ns : List ℕ) (i : ℕ) (h : i < length Ns) (e : first_over Ns ≡ i + first_over (drop i Ns)) where
-  pub seek_on : get_or Ns i 0 ≤ most_budget → first_over Ns ≡ i + 1 + first_over (drop (i + 1) Ns)
-  seek_on l =
-      let s : suc i ≡ i + 1 = omega arith in
-      rw (← s) (e ∙ ap (λ (l : List ℕ). i + first_over l) (drop-cons Ns i 0 h) ∙ ap (λ (k : ℕ). i + k) (over-on (get_or Ns i 0) (drop (suc i) Ns) l) ∙ omega arith)
-
-  pub seek_found : most_budget < get_or Ns i 0 → i ≡ first_over Ns
-  seek_found l = sym (e ∙ ap (λ (l : List ℕ). i + first_over l) (drop-cons Ns i 0 h) ∙ ap (λ (k : ℕ). i + k) (over-here (get_or Ns i 0) (drop (suc i) Ns) l) ∙ omega arith)
-
-pub seek_end : (Ns : List ℕ) (i : ℕ) → i ≡ length Ns → first_over Ns ≡ i + first_over (drop i Ns) → i ≡ first_over Ns
+-- ---- the search, as the code has it
+pub place_over : (Ns : List ℕ) → position (λ n. ltb most_budget n) Ns ≡ over_place Ns
 unfolding first_over
-seek_end Ns i h e = sym (e ∙ rw (h, drop-length Ns) (omega arith))
+place_over Ns = rw (is_position_or_len first_over (λ n. ltb most_budget n) refl (λ _ _. refl) Ns)
 
--- ---- the reply to them
-pub common-high : {N : ℕ} → most_budget < N → fails OverLimit 0 ≡ over_budget (common N)
-common-high {N} h =
-    let f : FirstOver (N ∷ []) 0 = record { there = omega arith; over = h; lower = λ i l. absurd (omega arith) } in
-    rw (is-over (N ∷ []) 0 f, first-is (N ∷ []) 0 f)
-
-pub common-low : {N : ℕ} → N ≤ most_budget → passes ≡ over_budget (common N)
-common-low {N} h = rw (is_none (N ∷ []) (only N h))
+-- one number is a list of one
+pub one_over : (N : ℕ) → then_some {T = ℕ} (ltb most_budget N) 0 ≡ over_place (N ∷ [])
+unfolding first_over
+one_over N = go (ltb most_budget N)
   where
-    only : (N : ℕ) → N ≤ most_budget → NoneOver (N ∷ [])
-    only N h zero = h
-    only N h (suc i) = omega arith
+    go : (b : Bool) → then_some {T = ℕ} b 0 ≡ cond (ltb (cond b 0 1) 1) (Some (cond b 0 1)) None
+    go true = refl
+    go false = refl
 
-pub each-high : (Ns : List ℕ) {n : ℕ} → n ≡ first_over Ns → n < length Ns → fails OverLimit n ≡ over_budget (each Ns)
-each-high Ns {n} e h = rw (← e, lt-ltb n (length Ns) h)
+pub is-place : (b : Bool) (m n : ℕ) → cond b (Some m) None ≡ Some n → (b ≡ true) × (m ≡ n)
+is-place true m n e = (refl, cc)
+is-place false m n e = cc
 
-pub each-low : (Ns : List ℕ) {n : ℕ} → n ≡ first_over Ns → length Ns ≤ n → passes ≡ over_budget (each Ns)
-each-low Ns {n} e h = rw (← e, le-ltb n (length Ns) h)
+pub no-place : (b : Bool) (m : ℕ) → cond b (Some m) None ≡ None → b ≡ false
+no-place true m e = cc
+no-place false m e = refl

@@ -17,14 +17,13 @@ use Rattle.definitions.specs.Direct.{State, start}
 use Rattle.definitions.specs.Batch.{record_size, record_of, records_of, lines_from, live_of, most_of, start_at, starts_of, columns_of, line_words}
 use Rattle.definitions.proofs.Values.{values_length, values-append, value-at}
 use Rattle.definitions.specs.Grammar.{most_variables}
-use Rattle.definitions.specs.Finder.{most_rows}
 use Rattle.columns.specs.Proper.{Proper}
 use Rattle.columns.specs.Row.{SoundNow}
 use Rattle.columns.specs.Alike.{Alike}
 use Rattle.columns.proofs.Rows.{start-sound}
 use Rattle.layouts.specs.Layout.{width, line_in, lines_in, in_array}
 use Rattle.layouts.specs.declared.Layout.{Layout}
-use Rattle.layouts.proofs.Sizes.{item_in, values_low}
+use Rattle.layouts.proofs.Sizes.{item_in}
 use Rattle.layouts.proofs.Buffers.{over-is, over_seam}
 use Rattle.layouts.proofs.Looks.{line-length, columns-mask}
 use Rattle.tables.specs.Table.{EachRow}
@@ -139,12 +138,6 @@ module _ {l : Layout} {rows : ℕ} {values : List Word} {work : List Word} (p : 
       ap (λ (n : ℕ). drop n work) e
 
   module _ (n : ℕ) (h : n < rows) where
-    pub args_fit : n * l.arguments + l.arguments ≤ length values
-    args_fit = omega (arith, item_in n rows l.arguments h, p.given)
-
-    pub args_low : n * l.arguments ≤ most_rows * most_variables
-    args_low = values_low n l.arguments (omega (arith, p.few)) (omega (arith, p.known.proper.few, p.known.proper.given, p.known.arguments))
-
     pub line-fits : n * l.size + l.size ≤ length work
     line-fits = omega (arith, item_in n rows l.size h, p.table)
 
@@ -164,7 +157,3 @@ module _ {l : Layout} {rows : ℕ} {values : List Word} {work : List Word} (p : 
         ew ∙ ap (λ (c : List Word). over now (n * l.size) c) (fresh vars ev) ∙ ap (λ (m : ℕ). over now (n * m) x) p.known.size' ∙ rw e (over_seam y (drop (n * width r) work) x (n * width r) (starts-wide r values n))
         ∙ sym (append_assoc y x (drop (length x) (drop (n * width r) work)))
         ∙ rw (← starts-next r values n, drop-drop, z)
-
-  -- all lines
-  pub starts-all : {n : ℕ} {now : List Word} → n ≡ rows → Started r values n work now → Started r values rows work now
-  starts-all {n} {now} e = subst (λ (k : ℕ). Started r values k work now) e

@@ -11,15 +11,15 @@ use Rattle.definitions.specs.Calls.{most_budget}
 use Rattle.columns.specs.Row.{SoundNow}
 use Rattle.layouts.specs.Layout.{width, line_in, lines_in}
 use Rattle.layouts.specs.Rows.{RowAt}
-use Rattle.tables.specs.declared.Allowance.{Allowance}
-use Rattle.tables.specs.declared.Allowance.TheVariants.{Common, Each}
+use Rattle.tables.specs.declared.Budgets as told
+use Rattle.tables.specs.declared.Budgets.TheVariants.{Common, Each}
 use Rattle.tables.specs.declared.Stage.{Stage}
 use Rattle.tables.specs.declared.Standing.{Standing}
 
--- ---- the budgets of a call, as the code has them: one number for all, or a list beside it
-abbrev pub budgets_in : Allowance → List ℕ → Budgets
-budgets_in (Common N) Ns = common N
-budgets_in Each Ns = each Ns
+-- ---- the budgets of a call, as the code has them
+abbrev pub budgets_in : told.Budgets → Budgets
+budgets_in (Common N) = common N
+budgets_in (Each Ns) = each Ns.now
 
 -- ---- one row
 

@@ -18,32 +18,21 @@ use rounds::Rule;
 
 // ---- budgets
 
-// How many rounds the rows may begin: one number for all, or one for each, in a list beside it.
+// How many rounds the rows may begin: one number for all, or one for each.
 #[derive(Clone, Copy)]
-pub enum Allowance {
+pub enum Budgets<'a> {
     Common(usize),
-    Each,
+    Each(&'a [u32]),
 }
 
-// A budget as a size.
-pub fn widened(n: u32) -> usize
-    ensures { result ≡ n }
-{
-    n as usize
-}
-
-// How many a row may begin.
-fn budget_of(a: Allowance, budgets: &[u32], row: usize) -> usize
-    ensures { result ≡ budget_of (budgets_in a budgets.now) row }
-{
-    match a {
-        Allowance::Common(n) => n,
-        Allowance::Each => {
-            if row < budgets.len() {
-                widened(budgets[row])
-            } else {
-                0
-            }
+impl Budgets<'_> {
+    // How many a row may begin.
+    fn of(self, row: usize) -> usize
+        ensures { result ≡ budget_of (budgets_in self.entry) row }
+    {
+        match self {
+            Budgets::Common(n) => n,
+            Budgets::Each(ns) => ns.get(row).map_or(0, |n| *n as usize),
         }
     }
 }
@@ -69,16 +58,15 @@ fn turn(
     plan: &[u8],
     rule: &Rule,
     l: Layout,
-    a: Allowance,
-    budgets: &[u32],
+    budgets: Budgets,
     m: Move,
     out: &mut [i32],
     work: &mut [i32],
 ) -> Stage
     requires running { Running plan.now rule.now × (Known (rule_in plan.now) l × (m.to ≤ m.from)) }
-    requires row_may_begin { RowMayBegin (budget_of (budgets_in a budgets.now)) (rule_in plan.now) l.quota m.from out.old work.old }
+    requires row_may_begin { RowMayBegin (budget_of (budgets_in budgets)) (rule_in plan.now) l.quota m.from out.old work.old }
     ensures { (k : RowAt (rule_in plan.now) l.quota m.from out.old work.old)
-        → Turned (rule_in plan.now) l.quota k.row m.to (after (rule_in plan.now) l.quota (budget_of (budgets_in a budgets.now) k.row) k.state)
+        → Turned (rule_in plan.now) l.quota k.row m.to (after (rule_in plan.now) l.quota (budget_of (budgets_in budgets.entry) k.row) k.state)
         out.old work.old result out.new work.new }
 {
     let row = read_row(out, work, m.from, l);
@@ -88,7 +76,7 @@ fn turn(
         block: row.block,
         count: row.count,
     };
-    let budget = budget_of(a, budgets, row.row);
+    let budget = budgets.of(row.row);
     let c = carry(plan, rule, l.quota, budget, spot, &mut labels, &mut vars);
     let begun = row.begun + c.rounds;
     let at = record_at(row.row, l.quota);
@@ -119,16 +107,15 @@ fn pass(
     plan: &[u8],
     rule: &Rule,
     l: Layout,
-    a: Allowance,
-    budgets: &[u32],
+    budgets: Budgets,
     before: Standing,
     out: &mut [i32],
     work: &mut [i32],
 ) -> Standing
     requires running { Running plan.now rule.now × Known (rule_in plan.now) l }
-    requires rows_may_begin { RowsMayBegin (budget_of (budgets_in a budgets.now)) (rule_in plan.now) l.quota before.live out.old work.old }
+    requires rows_may_begin { RowsMayBegin (budget_of (budgets_in budgets)) (rule_in plan.now) l.quota before.live out.old work.old }
     ensures { (t : Table (rule_in plan.now) l.quota before.live out.old work.old)
-        → AfterPass (rule_in plan.now) l.quota before out.old work.old t (λ i. after (rule_in plan.now) l.quota (budget_of (budgets_in a budgets.now) i))
+        → AfterPass (rule_in plan.now) l.quota before out.old work.old t (λ i. after (rule_in plan.now) l.quota (budget_of (budgets_in budgets.entry) i))
         result out.new work.new }
 {
     let live = before.live;
@@ -140,7 +127,7 @@ fn pass(
             from: i * l.size,
             to: kept * l.size,
         };
-        let s = turn(plan, rule, l, a, budgets, m, out, work);
+        let s = turn(plan, rule, l, budgets, m, out, work);
         if top < s.begun {
             top = s.begun;
         }
@@ -173,37 +160,28 @@ fn put_starts(l: Layout, values: &[i32], rows: usize, work: &mut [i32])
     }
 }
 
-// How many rows a call has, and whether they have one budget for all.
-#[derive(Clone, Copy)]
-pub struct Extent {
-    pub rows: usize,
-    pub allowance: Allowance,
-}
-
 // All rows from their start on; the rest of the table is cleared. The most rounds that any row began.
 pub fn run_rows(
     plan: &[u8],
     rule: &Rule,
     l: Layout,
-    e: Extent,
-    budgets: &[u32],
+    rows: usize,
+    budgets: Budgets,
     values: &[i32],
     out: &mut [i32],
     work: &mut [i32],
 ) -> usize
     requires running { Running plan.now rule.now × Known (rule_in plan.now) l }
-    requires allowed { Allowed l e.rows (budgets_in e.allowance budgets.now) (length values.now) (length out.old) (length work.old) }
-    ensures { RowsRun (rule_in plan.now) values.now e.rows (budgets_in e.allowance budgets.now) l.quota out.old work.old result out.new work.new }
+    requires allowed { Allowed l rows (budgets_in budgets) (length values.now) (length out.old) (length work.old) }
+    ensures { RowsRun (rule_in plan.now) values.now rows (budgets_in budgets.entry) l.quota out.old work.old result out.new work.new }
 {
-    let rows = e.rows;
     buffers::clear_at(out, 0, record_at(rows, l.quota));
     put_starts(l, values, rows, work);
     let first = Standing {
         live: rows,
         most: 0,
     };
-    let allowance = e.allowance;
-    let s = pass(plan, rule, l, allowance, budgets, first, out, work);
+    let s = pass(plan, rule, l, budgets, first, out, work);
     let live = s.live;
     buffers::clear_at(work, live * l.size, (rows - live) * l.size);
     s.most

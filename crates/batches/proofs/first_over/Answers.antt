@@ -1,19 +1,16 @@
--- Up to budget i none is over the limit.
-use native.Mathlib.Omega.{arith}
-use Rattle.batches.proofs.Budgets.{seek_on, seek_found, seek_end}
+-- One budget is a list of one.
+use Rattle.std.proofs.Common.{◌∙◌, rules}
+use Rattle.std.proofs.lemmas.Iterator.{YieldsList-from_slice}
+use Rattle.std.proofs.lemmas.Iterator.Search.{position_from_yields_List}
+use lib.Dec.{ltb}
+use borrow.Author.Tests.{tests}
+use Rattle.definitions.specs.Calls.{most_budget}
+use Rattle.batches.proofs.Budgets.{place_over, one_over}
 use Rattle.batches.proofs.first_over.Goals as goal
 
-pub returns-then-widened-gt-BUDGET : goal.returns-then-widened-gt-BUDGET
-returns-then-widened-gt-BUDGET c =
-    let h = c.loop-i-test.true in
-    seek_found c.args.budgets.now c.loop-i.i h c.loop-i.invariant.1 (omega (arith, c.if-widened-gt-BUDGET.true, c.widened.ensures))
+pub returns-in-Common : goal.returns-in-Common
+returns-in-Common c = rw c.in-Common.is (c.then_some.ensures ∙ one_over c.in-Common.n)
 
-pub loop-i-preserved : goal.loop-i-preserved
-loop-i-preserved c =
-    let h = c.loop-i-test.true in
-    (omega arith, seek_on c.args.budgets.now c.loop-i.i h c.loop-i.invariant.1 (omega (arith, c.if-widened-gt-BUDGET.false, c.widened.ensures)))
-
-pub returns : goal.returns
-returns c =
-    let l = c.loop-i in
-    seek_end c.args.budgets.now l.i (omega (arith, l.invariant.0, c.loop-i-test.false)) l.invariant.1
+pub returns-in-Each : goal.returns-in-Each
+returns-in-Each c =
+    rw c.in-Each.is (position_from_yields_List (λ n. ltb most_budget n) _ _ c.position.result c.position.ensures.ran (YieldsList-from_slice c.in-Each.ns.now c.iter.ensures.rest) (λ x b q k. search (rules, tests)) ∙ place_over c.in-Each.ns.now)

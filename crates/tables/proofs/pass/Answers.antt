@@ -10,7 +10,7 @@ use Rattle.tables.proofs.pass.Goals.{then-goes_on, else-goes_on, then-top-s, els
 
 pub loop-i-init : goal.loop-i-init
 loop-i-init c =
-    (omega arith, omega arith, (refl, (refl, λ t. mid_start (step _ c.args.l.quota c.requires.running.1.proper (budget_of (budgets_in c.args.a c.args.budgets.now))) _ t)))
+    (omega arith, omega arith, (refl, (refl, λ t. mid_start (step _ c.args.l.quota c.requires.running.1.proper (budget_of (budgets_in c.args.budgets))) _ t)))
 
 pub overflow_mul-m : goal.overflow_mul-m
 overflow_mul-m c =
@@ -25,7 +25,7 @@ turn-s-requires-clause-row_may_begin c =
     let l = c.loop-i in
     let a = c.args in
     let kn = c.requires.running.1 in
-    let sw = step _ a.l.quota kn.proper (budget_of (budgets_in a.a a.budgets.now)) in
+    let sw = step _ a.l.quota kn.proper (budget_of (budgets_in a.budgets)) in
     let t = c.requires.rows_may_begin.table in
     let d = ready sw _ t c.loop-i-test.true (l.invariant.2.1.1 t) in
     let at = mid_row sw _ t d a.l.size kn.size' in
@@ -37,7 +37,7 @@ loop-i-preserved c =
     let l = c.loop-i in
     let a = c.args in
     let kn = c.requires.running.1 in
-    let sw = step _ a.l.quota kn.proper (budget_of (budgets_in a.a a.budgets.now)) in (
+    let sw = step _ a.l.quota kn.proper (budget_of (budgets_in a.budgets)) in (
       omega (arith, c.loop-i-test.true),
       elim c.if-goes_on.branch [ then-goes_on w ↦ omega (arith, w.kept-is) | else-goes_on w ↦ omega (arith, w.kept-is) ],
       (
@@ -56,4 +56,4 @@ loop-i-preserved c =
 pub returns : goal.returns
 returns c =
     let l = c.loop-i in
-    λ t. mid_end (step _ c.args.l.quota c.requires.running.1.proper (budget_of (budgets_in c.args.a c.args.budgets.now))) _ t (omega arith) (l.invariant.2.1.1 t)
+    λ t. mid_end (step _ c.args.l.quota c.requires.running.1.proper (budget_of (budgets_in c.args.budgets))) _ t (omega arith) (l.invariant.2.1.1 t)

@@ -12,7 +12,7 @@ use Rattle.tables.proofs.pass.Given as goal
 abbrev pub invariant-loop-i : goal.invariant-loop-i
 invariant-loop-i l =
     (l.i ≤ l.live) × (l.kept ≤ l.i) × ((length l.out ≡ length l.initial.out) × ((length l.work ≡ length l.initial.work)
-    × ((t : Table (rule_in l.plan) l.l.quota l.live l.initial.out l.initial.work) → Between (rule_in l.plan) l.l.quota (λ i. after (rule_in l.plan) l.l.quota (budget_of (budgets_in l.a l.budgets) i)) (record { live = l.live; most = l.initial.top }) l.initial.out l.initial.work t l.i l.kept l.top l.out l.work)))
+    × ((t : Table (rule_in l.plan) l.l.quota l.live l.initial.out l.initial.work) → Between (rule_in l.plan) l.l.quota (λ i. after (rule_in l.plan) l.l.quota (budget_of (budgets_in l.budgets) i)) (record { live = l.live; most = l.initial.top }) l.initial.out l.initial.work t l.i l.kept l.top l.out l.work)))
 
 abbrev pub decreases-loop-i : goal.decreases-loop-i
 decreases-loop-i l = l.live - l.i

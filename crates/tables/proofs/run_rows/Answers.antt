@@ -14,22 +14,22 @@ pass-s-requires-clause-rows_may_begin c =
     let a = c.args in
     let kn = c.requires.running.1 in
     let al = c.requires.allowed in
-    let eo = starts-out _ a.values.now a.l.quota a.e.rows a.out.now _ c.record_at.result c.record_at.ensures c.clear_at.ensures in
+    let eo = starts-out _ a.values.now a.l.quota a.rows a.out.now _ c.record_at.result c.record_at.ensures c.clear_at.ensures in
     let ew = c.put_starts.ensures (record { rule = _; known = kn; few = al.rows_few; given = al.given; table = al.table }) in
-    may-begin _ kn.proper a.values.now a.e.rows (budgets_in a.e.allowance a.budgets.now) a.l.quota al.rows_few a.out.now a.work.now _ _ eo ew al.budgets-low
+    may-begin _ kn.proper a.values.now a.rows (budgets_in a.budgets) a.l.quota al.rows_few a.out.now a.work.now _ _ eo ew al.budgets-low
 
 -- what the pass left
 passed : (c : After-pass-s) →
     let a = c.args in
-    (c.pass-s.result.live ≤ a.e.rows)
+    (c.pass-s.result.live ≤ a.rows)
 passed c =
     let a = c.args in
     let kn = c.requires.running.1 in
     let al = c.requires.allowed in
-    let eo = starts-out _ a.values.now a.l.quota a.e.rows a.out.now _ c.record_at.result c.record_at.ensures c.clear_at.ensures in
+    let eo = starts-out _ a.values.now a.l.quota a.rows a.out.now _ c.record_at.result c.record_at.ensures c.clear_at.ensures in
     let ew = c.put_starts.ensures (record { rule = _; known = kn; few = al.rows_few; given = al.given; table = al.table }) in
-    let t = table _ kn.proper a.values.now a.e.rows (budgets_in a.e.allowance a.budgets.now) a.l.quota al.rows_few a.out.now a.work.now _ _ eo ew in
-    fewer _ kn.proper a.values.now a.e.rows (budgets_in a.e.allowance a.budgets.now) a.l.quota al.rows_few a.out.now a.work.now _ _ eo ew _ _ _ (c.pass-s.ensures t)
+    let t = table _ kn.proper a.values.now a.rows (budgets_in a.budgets) a.l.quota al.rows_few a.out.now a.work.now _ _ eo ew in
+    fewer _ kn.proper a.values.now a.rows (budgets_in a.budgets) a.l.quota al.rows_few a.out.now a.work.now _ _ eo ew _ _ _ (c.pass-s.ensures t)
 
 pub overflow_mul-live : goal.overflow_mul-live
 overflow_mul-live c =
@@ -42,7 +42,7 @@ pub clear_at-requires-2 : goal.clear_at-requires-2
 clear_at-requires-2 c =
     let a = c.args in
     let live = c.pass-s.result.live in
-    let all : live + (a.e.rows - live) ≡ a.e.rows = omega (arith, passed (goal.at.clear_at-requires-2 c).After-pass-s) in
+    let all : live + (a.rows - live) ≡ a.rows = omega (arith, passed (goal.at.clear_at-requires-2 c).After-pass-s) in
     omega (arith, ap (λ (n : ℕ). n * a.l.size) all, c.requires.allowed.table, c.pass-s.auto.work, c.put_starts.auto.work)
 
 pub returns : goal.returns
@@ -50,7 +50,7 @@ returns c =
     let a = c.args in
     let kn = c.requires.running.1 in
     let al = c.requires.allowed in
-    let eo = starts-out _ a.values.now a.l.quota a.e.rows a.out.now _ c.record_at.result c.record_at.ensures c.clear_at.ensures in
+    let eo = starts-out _ a.values.now a.l.quota a.rows a.out.now _ c.record_at.result c.record_at.ensures c.clear_at.ensures in
     let ew = c.put_starts.ensures (record { rule = _; known = kn; few = al.rows_few; given = al.given; table = al.table }) in
-    let t = table _ kn.proper a.values.now a.e.rows (budgets_in a.e.allowance a.budgets.now) a.l.quota al.rows_few a.out.now a.work.now _ _ eo ew in
-    ran _ kn.proper a.values.now a.e.rows (budgets_in a.e.allowance a.budgets.now) a.l.quota al.rows_few a.out.now a.work.now _ _ eo ew _ _ _ (c.pass-s.ensures t) a.l.size c.clear_at-2.new.dst kn.size' c.clear_at-2.ensures
+    let t = table _ kn.proper a.values.now a.rows (budgets_in a.budgets) a.l.quota al.rows_few a.out.now a.work.now _ _ eo ew in
+    ran _ kn.proper a.values.now a.rows (budgets_in a.budgets) a.l.quota al.rows_few a.out.now a.work.now _ _ eo ew _ _ _ (c.pass-s.ensures t) a.l.size c.clear_at-2.new.dst kn.size' c.clear_at-2.ensures

@@ -7,10 +7,10 @@ use Rattle.definitions.specs.Grammar.{longest}
 use Rattle.plans.proofs.Carried.{accepted, refused-plan}
 use Rattle.batches.proofs.Accepted.{lies}
 use Rattle.batches.proofs.Replies.{ran_unplanned}
-use Rattle.batches.proofs.run_by.Goals as goal
+use Rattle.batches.proofs.Batch.run.Goals as goal
 
-pub run_plan-requires : goal.run_plan-requires
-run_plan-requires c =
+pub run_by-requires : goal.run_by-requires
+run_by-requires c =
     let k = c.take in
     let e = ok_or-some _ _ _ (sym c.ok_or.ensures.value ∙ c.in_ok-ok_or.was) in
     record { accepted = accepted k.ensures _ e; bytes = lies k.ensures _ e (k.auto.rule ∙ length-replicate {A = ℕ} longest 0) }
