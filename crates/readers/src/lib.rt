@@ -5,17 +5,10 @@ pub mod blocks;
 pub mod exprs;
 
 ghost use Rattle.std.specs.Prelude.{◌≡◌};
-ghost use Rattle.definitions.specs.Grammar.{read_of, between, blocks_to, parsed};
+ghost use Rattle.definitions.specs.Grammar.{read_of, blocks_to, parsed};
 ghost use Rattle.readers.specs.Readings.{header_at};
 
 use definitions::{BLOCKS, Reason, Refusal, VARIABLES};
-
-// Whether a number lies between two, both included.
-fn within(x: u8, low: u8, high: u8) -> bool
-    ensures { result ≡ between low high x }
-{
-    low <= x && x <= high
-}
 
 // The header: its four bytes are there, and the first bad one is told.
 fn read_header(s: &[u8]) -> Result<usize, Refusal>
@@ -27,13 +20,13 @@ fn read_header(s: &[u8]) -> Result<usize, Refusal>
     if s[0] != 1 {
         return Err(Reason::BadHeader.at(0));
     }
-    if !within(s[1], 1, VARIABLES as u8) {
+    if !(1..=VARIABLES as u8).contains(&s[1]) {
         return Err(Reason::BadHeader.at(1));
     }
     if s[1] < s[2] {
         return Err(Reason::BadHeader.at(2));
     }
-    if !within(s[3], 1, BLOCKS as u8) {
+    if !(1..=BLOCKS as u8).contains(&s[3]) {
         return Err(Reason::BadHeader.at(3));
     }
     Ok(4)
