@@ -100,6 +100,16 @@ tagged left s at tag e = let h = go (ltb at (length s)) (eqb left 0) refl refl e
     go true true p q e = let z : ◌≡◌ {A = ℕ} 0 1 = cc in absurd (omega arith)
     go false b p q e = let z : ◌≡◌ {A = ℕ} 0 1 = cc in absurd (omega arith)
 
+-- of what `read_tag` tells and a `match` has found
+module _ (left : ℕ) (s : List ℕ) (at tag : ℕ) {r : Reply} (q : r ≡ due_of (tag_at left s at)) (e : r ≡ Ok tag) where
+  pub tag-there : at < length s
+  tag-there = (tagged left s at tag (told q e)).there
+
+  pub tag-level : 0 < left
+  tag-level = (tagged left s at tag (told q e)).level
+
+pub ruleset of_tag = (tag-there, tag-level)
+
 -- what reads by levels, X, reads the tag that is due and goes on by it with one level less
 pub levelled :
     {A : Type 0} (left : ℕ) (s : List ℕ) (at : ℕ) (X : ℕ → Got A) (f : ℕ → ℕ → Got A) →

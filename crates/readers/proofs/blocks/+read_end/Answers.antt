@@ -8,18 +8,6 @@ use Rattle.readers.proofs.Laws.{told, goes, stays, tagged}
 use Rattle.readers.proofs.BlockLaws.{end_none, end-goes, end-stop, end-if, end-bad}
 use Rattle.readers.proofs.blocks.+read_end.Goals as goal
 
-pub overflow_add-next : goal.overflow_add-next
-overflow_add-next t c = omega (arith, tagged c.args.left c.args.s.now c.args.at c.in_ok-tag.tag (told c.read_tag.ensures c.in_ok-tag.was))
-
-pub overflow_sub-less : goal.overflow_sub-less
-overflow_sub-less t c = omega (arith, tagged c.args.left c.args.s.now c.args.at c.in_ok-tag.tag (told c.read_tag.ensures c.in_ok-tag.was))
-
-pub read_end-requires : goal.read_end-requires
-read_end-requires t c = omega (arith, tagged c.args.left c.args.s.now c.args.at c.in_ok-tag.tag (told c.read_tag.ensures c.in_ok-tag.was))
-
-pub read_end-requires-in-51 : goal.read_end-requires-in-51
-read_end-requires-in-51 t c = omega (arith, tagged c.args.left c.args.s.now c.args.at c.in_ok-tag.tag (told c.read_tag.ensures c.in_ok-tag.was))
-
 pub returns-in_err-tag : goal.returns-in_err-tag
 returns-in_err-tag t c = handed _ _ c.from_residual.ensures ∙ end_none _ _ _ _ _ _ (told c.read_tag.ensures c.in_err-tag.was)
 

@@ -6,9 +6,6 @@ use Rattle.readers.proofs.Laws.{told, goes, stays, tagged}
 use Rattle.readers.proofs.BlockLaws.{stmt_none, stmt-set, stmt-emit, stmt-bad}
 use Rattle.readers.proofs.blocks.read_stmt.Goals as goal
 
-pub overflow_add-next : goal.overflow_add-next
-overflow_add-next c = omega (arith, tagged 1 c.args.s.now c.args.at c.in_ok-tag.tag (told c.read_tag.ensures c.in_ok-tag.was))
-
 pub returns-in_err-tag : goal.returns-in_err-tag
 returns-in_err-tag c = handed _ _ c.from_residual.ensures ∙ stmt_none _ _ _ _ (told c.read_tag.ensures c.in_err-tag.was)
 

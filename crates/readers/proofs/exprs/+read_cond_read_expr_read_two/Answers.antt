@@ -10,9 +10,6 @@ use Rattle.readers.proofs.exprs.+read_cond_read_expr_read_two.Goals as goal
 use Rattle.readers.proofs.exprs.+read_cond_read_expr_read_two.Goals.{read_cond-in_default-via-then-tag-lt16, read_cond-in_default-via-else-tag-lt16+else-tag-lt18+else-tag-lt21, read_expr-in_default-via-then-tag-lt1, read_expr-in_default-via-else-tag-lt1+else-tag-lt9}
 
 -- ---- read_two
-pub read_two-read_expr-requires : goal.read_two-read_expr-requires
-read_two-read_expr-requires t c = omega arith
-
 pub read_two-returns : goal.read_two-returns
 read_two-returns t c = goes _ _ _ _ (told c.read_expr.ensures c.in_ok-n.was) (λ _. c.read_expr-2.ensures)
 
@@ -20,24 +17,6 @@ pub read_two-returns-in_err-n : goal.read_two-returns-in_err-n
 read_two-returns-in_err-n t c = handed _ _ c.from_residual.ensures ∙ stays _ _ _ (told c.read_expr.ensures c.in_err-n.was)
 
 -- ---- read_cond
-pub read_cond-overflow_add-next : goal.read_cond-overflow_add-next
-read_cond-overflow_add-next t c = omega (arith, tagged c.args.left c.args.s.now c.args.at c.in_ok-tag.tag (told c.read_tag.ensures c.in_ok-tag.was))
-
-pub read_cond-overflow_sub-less : goal.read_cond-overflow_sub-less
-read_cond-overflow_sub-less t c = omega (arith, tagged c.args.left c.args.s.now c.args.at c.in_ok-tag.tag (told c.read_tag.ensures c.in_ok-tag.was))
-
-pub read_cond-read_cond-requires : goal.read_cond-read_cond-requires
-read_cond-read_cond-requires t c = omega (arith, tagged c.args.left c.args.s.now c.args.at c.in_ok-tag.tag (told c.read_tag.ensures c.in_ok-tag.was))
-
-pub read_cond-read_two-requires : goal.read_cond-read_two-requires
-read_cond-read_two-requires t c = omega (arith, tagged c.args.left c.args.s.now c.args.at c.in_ok-tag.tag (told c.read_tag.ensures c.in_ok-tag.was))
-
-pub read_cond-read_cond-requires-in-19 : goal.read_cond-read_cond-requires-in-19
-read_cond-read_cond-requires-in-19 t c = omega (arith, tagged c.args.left c.args.s.now c.args.at c.in_ok-tag.tag (told c.read_tag.ensures c.in_ok-tag.was))
-
-pub read_cond-read_cond-requires-in-19-2 : goal.read_cond-read_cond-requires-in-19-2
-read_cond-read_cond-requires-in-19-2 t c = omega (arith, tagged c.args.left c.args.s.now c.args.at c.in_ok-tag.tag (told c.read_tag.ensures c.in_ok-tag.was))
-
 pub read_cond-returns-in_err-tag : goal.read_cond-returns-in_err-tag
 read_cond-returns-in_err-tag t c = handed _ _ c.from_residual.ensures ∙ cond-none _ _ _ _ _ (told c.read_tag.ensures c.in_err-tag.was)
 
@@ -59,24 +38,6 @@ read_cond-returns-in_default t c =
     cond-bad _ _ _ _ _ _ (tagged _ _ _ _ (told c.read_tag.ensures c.in_ok-tag.was)) h (ap Err c.at.ensures)
 
 -- ---- read_expr
-pub read_expr-overflow_add-next : goal.read_expr-overflow_add-next
-read_expr-overflow_add-next t c = omega (arith, tagged c.args.left c.args.s.now c.args.at c.in_ok-tag.tag (told c.read_tag.ensures c.in_ok-tag.was))
-
-pub read_expr-overflow_sub-less : goal.read_expr-overflow_sub-less
-read_expr-overflow_sub-less t c = omega (arith, tagged c.args.left c.args.s.now c.args.at c.in_ok-tag.tag (told c.read_tag.ensures c.in_ok-tag.was))
-
-pub read_expr-read_expr-requires : goal.read_expr-read_expr-requires
-read_expr-read_expr-requires t c = omega (arith, tagged c.args.left c.args.s.now c.args.at c.in_ok-tag.tag (told c.read_tag.ensures c.in_ok-tag.was))
-
-pub read_expr-read_cond-requires : goal.read_expr-read_cond-requires
-read_expr-read_cond-requires t c = omega (arith, tagged c.args.left c.args.s.now c.args.at c.in_ok-tag.tag (told c.read_tag.ensures c.in_ok-tag.was))
-
-pub read_expr-read_two-requires : goal.read_expr-read_two-requires
-read_expr-read_two-requires t c = omega (arith, tagged c.args.left c.args.s.now c.args.at c.in_ok-tag.tag (told c.read_tag.ensures c.in_ok-tag.was))
-
-pub read_expr-read_two-requires-in-4-to-8 : goal.read_expr-read_two-requires-in-4-to-8
-read_expr-read_two-requires-in-4-to-8 t c = omega (arith, tagged c.args.left c.args.s.now c.args.at c.in_ok-tag.tag (told c.read_tag.ensures c.in_ok-tag.was))
-
 pub read_expr-returns-in_err-tag : goal.read_expr-returns-in_err-tag
 read_expr-returns-in_err-tag t c = handed _ _ c.from_residual.ensures ∙ expr_none _ _ _ _ _ (told c.read_tag.ensures c.in_err-tag.was)
 
