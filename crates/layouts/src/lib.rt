@@ -75,8 +75,9 @@ pub fn put_record(
     requires { (begun ≤ most_budget) × ((length labels.now ≤ quota) × ((quota ≤ most_quota) × (at + record_size quota ≤ length out.old))) }
     ensures { out.new ≡ over out.old at (record_words quota finish begun (length labels.now) labels.now) }
 {
+    let status = finish.status();
     let count = labels.len();
-    out[at] = finish.status() as i32;
+    out[at] = status as i32;
     out[at + 1] = begun as i32;
     out[at + 2] = count as i32;
     out[at + 3] = finish.place() as i32;
