@@ -32,7 +32,7 @@ fn entry_of(plan: &[u8], b: u8) -> Entry
 }
 
 // What a round comes to: a row that goes on jumps to `block`. With the count of labels.
-#[derive(Clone, Copy)]
+#[derive(Clone, Copy, Debug, PartialEq, Eq)]
 pub struct RoundEnd {
     pub finish: Finish,
     pub block: u8,
