@@ -97,6 +97,7 @@ pub fn smallest(n: usize, seed: &Blocks, edges: &Edges) -> Blocks
     ensures { Smallest n (among seed.now) (edge_in edges.now) (among result) }
 {
     let mut set = *seed;
+    // not a `for`: no index, and how many sweeps it takes is found out on the way
     while sweep(n, edges, &mut set) {}
     set
 }

@@ -15,6 +15,7 @@ pub fn read_full<R: Read>(from: &mut R, buf: &mut [u8]) -> io::Result<usize>
     ensures rest { OnOk result (Skips (length buf.old) (R.remaining from.old) (R.remaining from.new)) }
 {
     let mut done = 0;
+    // not a `for`: each read says how far it came
     while done < buf.len() {
         let n = from.read(&mut buf[done..])?;
         if n == 0 {

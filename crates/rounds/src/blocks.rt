@@ -101,6 +101,7 @@ pub fn run_body(
     ensures { (h : BlockHere v s.now at) → BodyRun v s.now at h quota count.old vars.old labels.old result count.new vars.new labels.new }
 {
     let mut i = at;
+    // not a `for`: each statement says where the next one begins
     while s[i] == 0x20 || s[i] == 0x21 {
         i = step(s, i, v, quota, vars, labels, count)?;
     }
