@@ -14,7 +14,8 @@ use Rattle.definitions.specs.declared.Refusal.{Refusal}
 use Rattle.definitions.specs.Refusals.{Reply}
 use Rattle.readers.specs.Readings.{tag_at, due_of, second, stmt_at, stmt_body, is_stmt, begins}
 use Rattle.readers.specs.Accepted.{StmtIn}
-use Rattle.readers.proofs.Laws.{made, goes, stays, then_one, then-two, by_tag, no_tag, Tagged, levelled}
+use Rattle.definitions.proofs.Handed.{handed}
+use Rattle.readers.proofs.Laws.{told, made, goes, stays, Handed, then_one, then-two, by_tag, no_tag, levelled, of_tag}
 use Rattle.readers.proofs.Sound.{Sound}
 use Rattle.readers.proofs.Accepted.{set-sound, emit_sound}
 use Rattle.std.specs.Prelude.{Ok, Err}
@@ -32,12 +33,12 @@ module _ (left : ℕ) (ts : ℕ) (v : ℕ) (s : List ℕ) (at : ℕ) where
   unfolding end_at
   end-level = levelled left s at (λ d. end_at d ts v s at) (λ d t. end_body (end_tag t) ts v s (λ m. end_at d ts v s m) at) refl (λ d. refl)
 
-  pub end_none : (e : Refusal) → due_of (tag_at left s at) ≡ Err e → Err e ≡ read_of (end_at left ts v s at)
-  end_none e d = rw end-level (no_tag (tag_at left s at) _ e d)
+  pub end_none : (r : Reply) (e : Refusal) {q : Reply} → Handed r e → q ≡ due_of (tag_at left s at) → q ≡ Err e → r ≡ read_of (end_at left ts v s at)
+  end_none r e h d w = handed r e h ∙ rw end-level (no_tag (tag_at left s at) _ e (told d w))
 
-  module _ (r : Reply) (tag : ℕ) (d : Tagged left s at tag) where
+  module _ (r : Reply) (tag : ℕ) {q : Reply} (d : q ≡ due_of (tag_at left s at)) (w : q ≡ Ok tag) where
     end_by : (t : EndTag) → end_tag tag ≡ t → r ≡ read_of (end_body t ts v s E at) → r ≡ read_of (end_at left ts v s at)
-    end_by t i e = rw (end-level, by_tag (tag_at left s at) (λ t. end_body (end_tag t) ts v s E at) tag d.is, i) e
+    end_by t i e = rw (end-level, by_tag (tag_at left s at) (λ t. end_body (end_tag t) ts v s E at) tag (told d w), i) e
 
     pub end-goes : 0x30 ≤ tag → tag ≤ 0x31 → r ≡ read_of (target_at ts s (at + 1)) → r ≡ read_of (end_at left ts v s at)
     end-goes l u e = go (eq-or-lt_of_le l)
@@ -67,12 +68,12 @@ module _ (v : ℕ) (s : List ℕ) (at : ℕ) where
       go (got t n) = refl
       go (refused k p) = refl
 
-  pub stmt_none : (e : Refusal) → due_of (tag_at 1 s at) ≡ Err e → Err e ≡ read_of (stmt_at v s at)
-  stmt_none e d = rw stmt_level (no_tag (tag_at 1 s at) _ e d)
+  pub stmt_none : (r : Reply) (e : Refusal) {q : Reply} → Handed r e → q ≡ due_of (tag_at 1 s at) → q ≡ Err e → r ≡ read_of (stmt_at v s at)
+  stmt_none r e h d w = handed r e h ∙ rw stmt_level (no_tag (tag_at 1 s at) _ e (told d w))
 
-  module _ (r : Reply) (tag : ℕ) (d : Tagged 1 s at tag) where
+  module _ (r : Reply) (tag : ℕ) {q : Reply} (d : q ≡ due_of (tag_at 1 s at)) (w : q ≡ Ok tag) where
     stmt-by : (t : StmtTag) → stmt_tag tag ≡ t → r ≡ read_of (stmt_body t v s at) → r ≡ read_of (stmt_at v s at)
-    stmt-by t i e = rw (stmt_level, by_tag (tag_at 1 s at) (λ t. stmt_body (stmt_tag t) v s at) tag d.is, i) e
+    stmt-by t i e = rw (stmt_level, by_tag (tag_at 1 s at) (λ t. stmt_body (stmt_tag t) v s at) tag (told d w), i) e
 
     pub stmt-set : tag ≡ 0x20 → r ≡ read_of (then (variable_at v s (at + 1)) (λ _ n. expr_at depth v s n)) → r ≡ read_of (stmt_at v s at)
     stmt-set i e = stmt-by set_tag (ap stmt_tag i) (e ∙ sym (then_one Set (variable_at v s (at + 1)) (expr_at depth v s)))
@@ -153,3 +154,8 @@ module _ (ts : ℕ) (v : ℕ) (s : List ℕ) where
 
     pub block-done : begins s at ≡ false → read_of (block_at ts v s at) ≡ read_of (end_at levels ts v s at)
     block-done e = ap read_of (block-ending e) ∙ made _ (end_at levels ts v s at)
+
+-- each way to go on by a tag
+pub ruleset of_end = (of_tag, end-stop)
+
+pub ruleset of_stmt = (of_tag, stmt-emit)

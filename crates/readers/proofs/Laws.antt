@@ -17,6 +17,8 @@ use Rattle.definitions.specs.declared.Refusal.{Refusal}
 use Rattle.definitions.specs.Refusals.{Reply}
 use Rattle.readers.specs.Readings.{tag_at, due_of, second}
 use Rattle.std.specs.Prelude.{Ok, Err}
+use Rattle.std.specs.Result.{IsErr, IsErrAnd}
+use Rattle.definitions.proofs.Handed.{handed}
 use Rattle.definitions.specs.declared.Reason.TheVariants.{BadTag, TooDeep, EndsEarly}
 
 -- ---- what a call's result is said to be, and what the arm of a `match` on it is told
@@ -43,6 +45,17 @@ pub stays : {A B : Type 0} (p : Got A) (f : A → ℕ → Got B) (e : Refusal) �
 unfolding read_of
 stays (got a m) f e h = let z : ◌≡◌ {A = ℕ} 0 1 = cc in absurd (omega arith)
 stays (refused k p) f e h = sym h
+
+-- a refusal that a `?` hands on as it is
+abbrev pub Handed : Reply → Refusal → Type 0
+Handed r e = IsErr r × IsErrAnd r (λ y. y ≡ e)
+
+-- the same of what calls answer, and of what a `?` hands on
+pub goes-on : {A B : Type 0} (p : Got A) (f : ℕ → Got B) (n : ℕ) (r : Reply) {q : Reply} → q ≡ read_of p → q ≡ Ok n → r ≡ read_of (f n) → r ≡ read_of (then p (λ _ m. f m))
+goes-on p f n r d w h = goes p (λ _ m. f m) n r (told d w) (λ _. h)
+
+pub ends : {A B : Type 0} (p : Got A) (f : A → ℕ → Got B) (e : Refusal) (r : Reply) {q : Reply} → Handed r e → q ≡ read_of p → q ≡ Err e → r ≡ read_of (then p f)
+ends p f e r h d w = handed r e h ∙ stays p f e (told d w)
 
 -- what is made of what was read is nothing to the reader
 pub made : {A B : Type 0} (f : A → B) (p : Got A) → read_of (then p (λ a n. got (f a) n)) ≡ read_of p
@@ -82,33 +95,25 @@ unfolding due_of read_of
 no_tag (got t n) f e h = let z : ◌≡◌ {A = ℕ} 0 1 = cc in absurd (omega arith)
 no_tag (refused k p) f e h = let q : record { reason = k; place = p } ≡ e = cc in sym (ap Err q)
 
--- what is known where a tag has been read
-pub record Tagged (left : ℕ) (s : List ℕ) (at tag : ℕ) : Type 0 where
-  pub is : due_of (tag_at left s at) ≡ Ok tag
-  pub there : at < length s
-  pub level : 0 < left
+-- of what `read_tag` tells and a `match` has found: the byte is there, and a level is left
+module _ (left : ℕ) (s : List ℕ) (at tag : ℕ) {q : Reply} (d : q ≡ due_of (tag_at left s at)) (w : q ≡ Ok tag) where
+  tagged : (at < length s) × (0 < left)
+  unfolding due_of
+  tagged = go (ltb at (length s)) (eqb left 0) refl refl (told d w)
+    where
+      go :
+          (a b : Bool) → ltb at (length s) ≡ a → eqb left 0 ≡ b →
+          due_of (then (cond a (got (get_or s at 0) (at + 1)) (refused EndsEarly (length s))) (λ t n. cond b (refused TooDeep at) (got t n))) ≡ Ok tag →
+          (at < length s) × (0 < left)
+      go true false p q e = let h = ltb-true at (length s) p in let z = eqb-false left 0 q in (omega arith, omega arith)
+      go true true p q e = let z : ◌≡◌ {A = ℕ} 0 1 = cc in absurd (omega arith)
+      go false b p q e = let z : ◌≡◌ {A = ℕ} 0 1 = cc in absurd (omega arith)
 
-pub tagged : (left : ℕ) (s : List ℕ) (at tag : ℕ) → due_of (tag_at left s at) ≡ Ok tag → Tagged left s at tag
-unfolding due_of
-tagged left s at tag e = let h = go (ltb at (length s)) (eqb left 0) refl refl e in record { is = e; there = h.0; level = h.1 }
-  where
-    go :
-        (a b : Bool) → ltb at (length s) ≡ a → eqb left 0 ≡ b →
-        due_of (then (cond a (got (get_or s at 0) (at + 1)) (refused EndsEarly (length s))) (λ t n. cond b (refused TooDeep at) (got t n))) ≡ Ok tag →
-        (at < length s) × (0 < left)
-    go true false p q e = let h = ltb-true at (length s) p in let z = eqb-false left 0 q in (omega arith, omega arith)
-    go true true p q e = let z : ◌≡◌ {A = ℕ} 0 1 = cc in absurd (omega arith)
-    go false b p q e = let z : ◌≡◌ {A = ℕ} 0 1 = cc in absurd (omega arith)
-
--- of what `read_tag` tells and a `match` has found
-module _ (left : ℕ) (s : List ℕ) (at tag : ℕ) {r : Reply} (q : r ≡ due_of (tag_at left s at)) (e : r ≡ Ok tag) where
   pub tag-there : at < length s
-  tag-there = (tagged left s at tag (told q e)).there
+  tag-there = tagged.0
 
   pub tag-level : 0 < left
-  tag-level = (tagged left s at tag (told q e)).level
-
-pub ruleset of_tag = (tag-there, tag-level)
+  tag-level = tagged.1
 
 -- what reads by levels, X, reads the tag that is due and goes on by it with one level less
 pub levelled :
@@ -188,18 +193,18 @@ module _ (left v : ℕ) (s : List ℕ) (at : ℕ) where
   cond-level = levelled left s at (λ d. cond_at d v s at) (λ d t. cond_body (cond_tag t) (λ n. expr_at d v s n) (λ n. cond_at d v s n) at) refl (λ d. refl)
 
   -- no tag is read
-  pub expr_none : (e : Refusal) → due_of (tag_at left s at) ≡ Err e → Err e ≡ read_of (expr_at left v s at)
-  expr_none e d = rw expr_level (no_tag (tag_at left s at) _ e d)
+  pub expr_none : (r : Reply) (e : Refusal) {q : Reply} → Handed r e → q ≡ due_of (tag_at left s at) → q ≡ Err e → r ≡ read_of (expr_at left v s at)
+  expr_none r e h d w = handed r e h ∙ rw expr_level (no_tag (tag_at left s at) _ e (told d w))
 
-  pub cond-none : (e : Refusal) → due_of (tag_at left s at) ≡ Err e → Err e ≡ read_of (cond_at left v s at)
-  cond-none e d = rw cond-level (no_tag (tag_at left s at) _ e d)
+  pub cond-none : (r : Reply) (e : Refusal) {q : Reply} → Handed r e → q ≡ due_of (tag_at left s at) → q ≡ Err e → r ≡ read_of (cond_at left v s at)
+  cond-none r e h d w = handed r e h ∙ rw cond-level (no_tag (tag_at left s at) _ e (told d w))
 
-  module _ (r : Reply) (tag : ℕ) (d : Tagged left s at tag) where
+  module _ (r : Reply) (tag : ℕ) {q : Reply} (d : q ≡ due_of (tag_at left s at)) (w : q ≡ Ok tag) where
     expr-by : (t : ExprTag) → expr_tag tag ≡ t → r ≡ read_of (expr_body t v s E C at) → r ≡ read_of (expr_at left v s at)
-    expr-by t i e = rw (expr_level, by_tag (tag_at left s at) (λ t. expr_body (expr_tag t) v s E C at) tag d.is, i) e
+    expr-by t i e = rw (expr_level, by_tag (tag_at left s at) (λ t. expr_body (expr_tag t) v s E C at) tag (told d w), i) e
 
     cond-by : (t : CondTag) → cond_tag tag ≡ t → r ≡ read_of (cond_body t E C at) → r ≡ read_of (cond_at left v s at)
-    cond-by t i e = rw (cond-level, by_tag (tag_at left s at) (λ t. cond_body (cond_tag t) E C at) tag d.is, i) e
+    cond-by t i e = rw (cond-level, by_tag (tag_at left s at) (λ t. cond_body (cond_tag t) E C at) tag (told d w), i) e
 
     pub expr_const : tag ≡ 0x01 → r ≡ read_of (constant_at s (at + 1)) → r ≡ read_of (expr_at left v s at)
     expr_const i e = expr-by const_tag (ap expr_tag i) (e ∙ sym (made Const (constant_at s (at + 1))))
@@ -232,3 +237,8 @@ module _ (left v : ℕ) (s : List ℕ) (at : ℕ) where
     pub cond-bad : (tag < 0x10) ⊎ (0x14 < tag) → r ≡ Err (record { reason = BadTag; place = at }) → r ≡ read_of (cond_at left v s at)
     unfolding read_of
     cond-bad h e = cond-by bad_cond (bad-cond tag h) e
+
+-- what is told of a tag, and of each way to go on by it
+pub ruleset of_tag = (tag-there, tag-level)
+
+pub ruleset of_expr = (of_tag, expr_const, expr_var, expr-neg, cond-not)

@@ -7,7 +7,7 @@ use crate::exprs::{read_below, read_cond, read_expr, read_tag, read_variable};
 use definitions::{DEPTH, LEVELS, Reason, Refusal};
 
 // The ending at a place: an if holds two more, with a level less.
-#[tactic(auto, using(crate::proofs::Laws::of_tag))]
+#[tactic(auto, using(crate::proofs::BlockLaws::of_end))]
 pub fn read_end(s: &[u8], at: usize, v: u8, blocks: u8, left: u8) -> Result<usize, Refusal>
     ensures { result ≡ read_of (end_at left blocks v s.now at) }
 {
@@ -38,7 +38,7 @@ pub fn begins_stmt(s: &[u8], at: usize) -> bool
 }
 
 // The statement at a place: a set's variable and expression, or an emit's expression.
-#[tactic(auto, using(crate::proofs::Laws::of_tag))]
+#[tactic(auto, using(crate::proofs::BlockLaws::of_stmt))]
 pub fn read_stmt(s: &[u8], at: usize, v: u8) -> Result<usize, Refusal>
     ensures { result ≡ read_of (stmt_at v s.now at) }
 {

@@ -52,7 +52,7 @@ pub fn read_variable(s: &[u8], at: usize, v: u8) -> Result<usize, Refusal>
 
 // The expression at a place, where so many levels may still stand; what it holds has one less.
 #[cycle(read_cond_read_expr_read_two)]
-#[tactic(auto, using(crate::proofs::Laws::of_tag))]
+#[tactic(auto, using(crate::proofs::Laws::of_expr))]
 pub fn read_expr(s: &[u8], at: usize, v: u8, left: u8) -> Result<usize, Refusal>
     ensures { result ≡ read_of (expr_at left v s.now at) }
 {
@@ -74,7 +74,7 @@ pub fn read_expr(s: &[u8], at: usize, v: u8, left: u8) -> Result<usize, Refusal>
 
 // Two expressions, one after the other.
 #[cycle(read_cond_read_expr_read_two)]
-#[tactic(auto, using(crate::proofs::Laws::of_tag))]
+#[tactic(auto, using(crate::proofs::Laws::of_expr))]
 fn read_two(s: &[u8], at: usize, v: u8, left: u8) -> Result<usize, Refusal>
     ensures { result ≡ read_of (second (expr_at left v s.now) at) }
 {
@@ -84,7 +84,7 @@ fn read_two(s: &[u8], at: usize, v: u8, left: u8) -> Result<usize, Refusal>
 
 // The condition at a place, as `read_expr` goes.
 #[cycle(read_cond_read_expr_read_two)]
-#[tactic(auto, using(crate::proofs::Laws::of_tag))]
+#[tactic(auto, using(crate::proofs::Laws::of_expr))]
 pub fn read_cond(s: &[u8], at: usize, v: u8, left: u8) -> Result<usize, Refusal>
     ensures { result ≡ read_of (cond_at left v s.now at) }
 {
