@@ -2,16 +2,10 @@
 use crate::input::{MOST, Unserved};
 use crate::{input, output};
 use std::io::{Read, Write};
+use tables::Budgets;
 
 // What a buffer's words hold before the call.
 const BEFORE: i32 = -1431655766;
-
-// What a request says of its budgets: one for all rows, or a list of them.
-#[derive(Drop)]
-enum Budgets<'a> {
-    Common(usize),
-    Each(&'a [u32]),
-}
 
 pub fn answer<R: Read, W: Write>(from: &mut R, to: &mut W) -> Result<(), Unserved> {
     let rows = input::number(from)? as usize;
