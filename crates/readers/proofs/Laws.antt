@@ -95,6 +95,22 @@ unfolding due_of read_of
 no_tag (got t n) f e h = let z : ◌≡◌ {A = ℕ} 0 1 = cc in absurd (omega arith)
 no_tag (refused k p) f e h = let q : record { reason = k; place = p } ≡ e = cc in sym (ap Err q)
 
+-- what was refused, and a byte that was read
+pub due-refused : (p : Got ℕ) (e : Refusal) → due_of p ≡ Err e → p ≡ refused e.reason e.place
+unfolding due_of
+due-refused (got t n) e h = cc
+due-refused (refused k p) e h = let q : record { reason = k; place = p } ≡ e = cc in ap (λ (r : Refusal). refused r.reason r.place) q
+
+pub byte-got : (s : List ℕ) (at k : ℕ) {q : Reply} → q ≡ due_of (byte_at s at) → q ≡ Ok k → (at < length s) × (byte_at s at ≡ got k (at + 1))
+unfolding due_of
+byte-got s at k d w = go (ltb at (length s)) refl (told d w)
+  where
+    go :
+        (a : Bool) → ltb at (length s) ≡ a → due_of (cond a (got (get_or s at 0) (at + 1)) (refused EndsEarly (length s))) ≡ Ok k →
+        (at < length s) × (cond a (got (get_or s at 0) (at + 1)) (refused EndsEarly (length s)) ≡ got k (at + 1))
+    go true p e = let h = ltb-true at (length s) p in let i : get_or s at 0 ≡ k = cc in (h, rw i)
+    go false p e = let z : ◌≡◌ {A = ℕ} 0 1 = cc in absurd (omega arith)
+
 -- of what `read_tag` tells and a `match` has found: the byte is there, and a level is left
 module _ (left : ℕ) (s : List ℕ) (at tag : ℕ) {q : Reply} (d : q ≡ due_of (tag_at left s at)) (w : q ≡ Ok tag) where
   tagged : (at < length s) × (0 < left)

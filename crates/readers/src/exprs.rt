@@ -1,21 +1,26 @@
 // Readers of expressions and conditions: where what stands at a place ends, or why it is refused.
 ghost use Rattle.std.specs.Prelude.{◌≡◌};
-ghost use Rattle.definitions.specs.Grammar.{read_of, below_at, constant_at, variable_at, expr_at, cond_at};
+ghost use Rattle.definitions.specs.Grammar.{read_of, byte_at, below_at, constant_at, variable_at, expr_at, cond_at};
 ghost use Rattle.readers.specs.Readings.{tag_at, due_of, second};
 
 use definitions::{Reason, Refusal};
+
+// The byte at a place, or that the rule ends early.
+fn byte_at(s: &[u8], at: usize) -> Result<u8, Refusal>
+    ensures { result ≡ due_of (byte_at s.now at) }
+{
+    s.get(at).copied().ok_or(Reason::EndsEarly.at(s.len()))
+}
 
 // The tag that is due at a place. The end of the rule is told before the missing level, and both before what the tag is.
 pub fn read_tag(s: &[u8], at: usize, left: u8) -> Result<u8, Refusal>
     ensures { result ≡ due_of (tag_at left s.now at) }
 {
-    if s.len() <= at {
-        return Err(Reason::EndsEarly.at(s.len()));
-    }
+    let tag = byte_at(s, at)?;
     if left == 0 {
         return Err(Reason::TooDeep.at(at));
     }
-    Ok(s[at])
+    Ok(tag)
 }
 
 // A constant's four bytes.
@@ -32,10 +37,7 @@ fn read_constant(s: &[u8], at: usize) -> Result<usize, Refusal>
 pub fn read_below(s: &[u8], at: usize, high: u8, why: Reason) -> Result<usize, Refusal>
     ensures { result ≡ read_of (below_at high why s.now at) }
 {
-    if s.len() <= at {
-        return Err(Reason::EndsEarly.at(s.len()));
-    }
-    let k = s[at];
+    let k = byte_at(s, at)?;
     if k < high {
         Ok(at + 1)
     } else {

@@ -1,16 +1,19 @@
--- `readers::exprs::read_tag` meets its contract: the tests are those of the definition, in its order.
-use borrow.Author.Tests.{lt-ltb, le-ltb, eq-eqb, ne_eqb}
+-- `readers::exprs::read_tag` meets its contract: where a byte is, a level has to be left.
+use Rattle.std.proofs.Common.{◌∙◌}
+use borrow.Author.Tests.{eq-eqb, ne_eqb}
+use Rattle.definitions.proofs.Handed.{handed}
 use Rattle.readers.specs.Readings.{due_of}
+use Rattle.readers.proofs.Laws.{told, due-refused, byte-got}
 use Rattle.readers.proofs.exprs.read_tag.Goals as goal
 
-pub returns-then-s-at : goal.returns-then-s-at
+pub returns-in_err-tag : goal.returns-in_err-tag
 unfolding due_of
-returns-then-s-at c = simp (c.at.ensures, le-ltb _ _ c.if-s-at.true)
+returns-in_err-tag c = handed _ _ c.from_residual.ensures ∙ rw (due-refused _ _ (told c.byte_at.ensures c.in_err-tag.was))
 
 pub returns-then-left-eq0 : goal.returns-then-left-eq0
 unfolding due_of
-returns-then-left-eq0 c = simp (c.at-then-left-eq0.ensures, lt-ltb _ _ c.if-s-at.false, eq-eqb _ _ c.if-left-eq0.true)
+returns-then-left-eq0 c = rw (byte-got _ _ _ c.byte_at.ensures c.in_ok-tag.was).1 (simp (c.at.ensures, eq-eqb _ _ c.if-left-eq0.true))
 
 pub returns : goal.returns
 unfolding due_of
-returns c = simp (lt-ltb _ _ c.if-s-at.false, ne_eqb _ _ c.if-left-eq0.false)
+returns c = rw (byte-got _ _ _ c.byte_at.ensures c.in_ok-tag.was).1 (simp (ne_eqb _ _ c.if-left-eq0.false))
