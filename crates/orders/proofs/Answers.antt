@@ -1,17 +1,17 @@
 -- The code's answers of cycles are right, and the only right ones. Assumes nothing.
-use mathlib.Core.Path.{◌≡◌, refl}
+use mathlib.Core.Path.{◌≡◌, refl, ap}
 use mathlib.Core.Bool.{Bool, true}
 use mathlib.Core.Logic.{◌↔◌}
 use Prim.Native.Nat.{ℕ, ◌≤◌, ◌<◌}
 use native.Mathlib.Omega.{arith}
 use borrow.Author.Tests.{lt-ltb, le-ltb}
 use Rattle.std.specs.Prelude.{Option, None, Some, MatchOption}
-use Rattle.definitions.specs.Paths.{OnCycle}
+use Rattle.definitions.specs.Paths.{OnCycle, NoCycle, LowestOnCycle}
 use Rattle.definitions.specs.Cycles.{cycle_of}
 use Rattle.definitions.specs.Smallest.{Smallest}
 use Rattle.definitions.proofs.Smallest.{alike}
 use Rattle.definitions.proofs.Paths.{path_from, path_held, held_path}
-use Rattle.definitions.proofs.Cycled.{cycle-lowest, cycle-free}
+use Rattle.definitions.proofs.Cycled.{cycle-lowest, cycle-free, lowest-one}
 use Rattle.orders.specs.Answers.{First, first_of}
 
 module _ (n : ℕ) (edge : ℕ → ℕ → Bool) where
@@ -29,3 +29,14 @@ module _ (n : ℕ) (edge : ℕ → ℕ → Bool) where
   unfolding first_of
   first-is None h = let e : cycle_of n edge ≡ n = (cycle-free n edge).1 h in rw (e, le-ltb n n (omega arith))
   first-is (Some b) h = let e = (cycle-lowest n edge b).1 h in rw (e.0, lt-ltb b n e.1)
+
+  -- so it tells of each block whether it is the lowest on a cycle, and whether there is a cycle
+  some_none : {b : ℕ} → Some b ≡ None → ⊥
+  some_none e = let z : ◌≡◌ {A = ℕ} 0 1 = cc in omega arith
+
+  none_some : {b : ℕ} → None ≡ Some b → ⊥
+  none_some e = let z : ◌≡◌ {A = ℕ} 0 1 = cc in omega arith
+
+  pub first-exactly : (r : Option ℕ) → First n edge r → ((b : ℕ) → (r ≡ Some b) ↔ LowestOnCycle n edge b) × ((r ≡ None) ↔ NoCycle n edge)
+  first-exactly None h = (λ b. (λ e. absurd (none_some e), λ m. absurd (h b m.here)), (λ e. h, λ k. refl))
+  first-exactly (Some b) h = (λ c. (λ e. let q : b ≡ c = cc in rw q at h, λ m. ap Some (lowest-one n edge b c h m)), (λ e. absurd (some_none e), λ k. absurd (k b h.here)))

@@ -33,6 +33,7 @@ pub fn next_number<R: Read>(from: &mut R) -> Result<Option<u32>, Unserved>
     ensures whole { OnOk result (IfSome (R.remaining from.old) (λ xs. ¬ IsCut xs)) }
     ensures cut { IsErrOf result NoRequest → IfSome (R.remaining from.old) IsCut }
     ensures rest { OnOk result (Skips 4 (R.remaining from.old) (R.remaining from.new)) }
+    ensures cut_rest { IsErrOf result NoRequest → Skips 4 (R.remaining from.old) (R.remaining from.new) }
 {
     let mut b = [0u8; 4];
     match read_full(from, &mut b)? {
@@ -84,6 +85,7 @@ pub fn fill<R: Read>(from: &mut R, buf: &mut [u8]) -> Result<(), Unserved>
     ensures cut { IsErrOf result NoRequest → IfSome (R.remaining from.old) (λ xs. length xs < length buf.old) }
     ensures bytes { OnOk result (IfSome (R.remaining from.old) (λ xs. buf.new ≡ take (length buf.old) xs)) }
     ensures rest { OnOk result (Skips (length buf.old) (R.remaining from.old) (R.remaining from.new)) }
+    ensures cut_rest { IsErrOf result NoRequest → Skips (length buf.old) (R.remaining from.old) (R.remaining from.new) }
 {
     if read_full(from, buf)? < buf.len() {
         return Err(Unserved::NoRequest);
@@ -111,6 +113,7 @@ pub fn fill_words<R: Read>(from: &mut R, buf: &mut [i32]) -> Result<(), Unserved
     ensures cut { IsErrOf result NoRequest → IfSome (R.remaining from.old) (λ xs. length xs < 4 * length buf.old) }
     ensures words { OnOk result (IfSome (R.remaining from.old) (λ xs. buf.new ≡ constants_in (take (4 * length buf.old) xs) (length buf.old))) }
     ensures rest { OnOk result (Skips (4 * length buf.old) (R.remaining from.old) (R.remaining from.new)) }
+    ensures cut_rest { IsErrOf result NoRequest → Skips (4 * length buf.old) (R.remaining from.old) (R.remaining from.new) }
 {
     let mut raw = [0u8; 4 * MOST];
     let bytes = &mut raw[..4 * buf.len()];
