@@ -30,11 +30,7 @@ pub fn read_end(s: &[u8], at: usize, v: u8, blocks: u8, left: u8) -> Result<usiz
 pub fn begins_stmt(s: &[u8], at: usize) -> bool
     ensures { result ≡ begins s.now at }
 {
-    if s.len() <= at {
-        return false;
-    }
-    let tag = s[at];
-    tag == 0x20 || tag == 0x21
+    matches!(s.get(at), Some(0x20 | 0x21))
 }
 
 // The statement at a place: a set's variable and expression, or an emit's expression.
