@@ -107,7 +107,7 @@ module _ (s : List ℕ) (r : Rule) (n : ℕ) (e : parsed s ≡ got r n) where
 
   pub rule-header : 4 ≤ length s
   unfolding read_of
-  rule-header = header-there s head.place (ap read_of head.was)
+  rule-header = header-there s head.place refl (ap read_of head.was)
 
   pub block-stands : (b : ℕ) → b < size r → block_at (size r) r.variables s (place_of r s b) ≡ got (block_of r b) (place_of r s (suc b))
   block-stands b h = stands (size r) r.variables s rule-header (size r) r.blocks n rule-blocks b h

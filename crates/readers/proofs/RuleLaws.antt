@@ -14,7 +14,8 @@ use Rattle.definitions.specs.Grammar.{Got, got, refused, then, read_of, between,
 use Rattle.definitions.specs.declared.Refusal.{Refusal}
 use Rattle.definitions.specs.Refusals.{Reply}
 use Rattle.readers.specs.Readings.{header_at}
-use Rattle.readers.proofs.Laws.{goes, stays, then_one}
+use Rattle.definitions.proofs.Handed.{handed}
+use Rattle.readers.proofs.Laws.{told, goes, stays, ends, Handed, then_one}
 use Rattle.std.specs.Prelude.{Ok, Err}
 use Rattle.definitions.specs.declared.Reason.TheVariants.{BadHeader, EndsEarly, BytesAfter}
 
@@ -70,28 +71,31 @@ module _ (s : List ℕ) where
   unfolding parsed
   rule-is = headed-then s (then blocks (whole_rule s))
 
-  pub rule_headless : (r : Refusal) → read_of (header_at s) ≡ Err r → Err r ≡ read_of (parsed s)
-  rule_headless r e = stays (header_at s) (λ _ _. then blocks (whole_rule s)) r e ∙ ap read_of (sym rule-is)
+  pub rule_headless : (r : Reply) (e : Refusal) {q : Reply} → Handed r e → q ≡ read_of (header_at s) → q ≡ Err e → r ≡ read_of (parsed s)
+  rule_headless r e h d w = handed r e h ∙ stays (header_at s) (λ _ _. then blocks (whole_rule s)) e (told d w) ∙ ap read_of (sym rule-is)
 
-  module _ (h : ℕ) (e : read_of (header_at s) ≡ Ok h) where
+  module _ (h : ℕ) {q : Reply} (d : q ≡ read_of (header_at s)) (w : q ≡ Ok h) where
     pub header-there : 4 ≤ length s
     unfolding headed read_of
-    header-there = go (ltb (length s) 4) _ refl e
+    header-there = go (ltb (length s) 4) _ refl (told d w)
       where
         go : (b : Bool) (rest : Got ℕ) → ltb (length s) 4 ≡ b → read_of (cond b (refused EndsEarly (length s)) rest) ≡ Ok h → 4 ≤ length s
         go true rest q f = let z : ◌≡◌ {A = ℕ} 0 1 = cc in absurd (omega arith)
         go false rest q f = ltb-false (length s) 4 q
 
     by_blocks : (r : Reply) → r ≡ read_of (then blocks (whole_rule s)) → r ≡ read_of (parsed s)
-    by_blocks r f = goes (header_at s) (λ _ _. then blocks (whole_rule s)) h r e (λ _. f) ∙ ap read_of (sym rule-is)
+    by_blocks r f = goes (header_at s) (λ _ _. then blocks (whole_rule s)) h r (told d w) (λ _. f) ∙ ap read_of (sym rule-is)
 
-    pub rule-refused : (r : Refusal) → read_of blocks ≡ Err r → Err r ≡ read_of (parsed s)
-    rule-refused r f = by_blocks (Err r) (stays blocks (whole_rule s) r f)
+    pub rule-refused : (r : Reply) (e : Refusal) {p : Reply} → Handed r e → p ≡ read_of blocks → p ≡ Err e → r ≡ read_of (parsed s)
+    rule-refused r e h f g = by_blocks r (ends blocks (whole_rule s) e r h f g)
 
-    pub rule-longer : (m : ℕ) → read_of blocks ≡ Ok m → m < length s → Err (record { reason = BytesAfter; place = m }) ≡ read_of (parsed s)
+    pub rule-longer : (m : ℕ) {p : Reply} → p ≡ read_of blocks → p ≡ Ok m → m < length s → Err (record { reason = BytesAfter; place = m }) ≡ read_of (parsed s)
     unfolding read_of
-    rule-longer m f l = by_blocks _ (goes blocks (whole_rule s) m _ f (λ bs. rw (lt-ltb m (length s) l)))
+    rule-longer m f g l = by_blocks _ (goes blocks (whole_rule s) m _ (told f g) (λ bs. rw (lt-ltb m (length s) l)))
 
-    pub rule-whole : (m : ℕ) → read_of blocks ≡ Ok m → length s ≤ m → Ok m ≡ read_of (parsed s)
+    pub rule-whole : (m : ℕ) {p : Reply} → p ≡ read_of blocks → p ≡ Ok m → length s ≤ m → Ok m ≡ read_of (parsed s)
     unfolding read_of
-    rule-whole m f l = by_blocks _ (goes blocks (whole_rule s) m _ f (λ bs. rw (le-ltb m (length s) l)))
+    rule-whole m f g l = by_blocks _ (goes blocks (whole_rule s) m _ (told f g) (λ bs. rw (le-ltb m (length s) l)))
+
+-- a header that is read is there
+pub ruleset of_header = (header-there)

@@ -44,6 +44,7 @@ fn read_blocks(s: &[u8], v: u8, blocks: u8) -> Result<usize, Refusal>
 }
 
 // The whole of the bytes, read to their end: nothing may follow the last block.
+#[tactic(auto, using(crate::proofs::RuleLaws::of_header))]
 pub fn read_tree(s: &[u8]) -> Result<usize, Refusal>
     ensures { result ≡ read_of (parsed s.now) }
 {
