@@ -27,7 +27,7 @@ pub fn read_tag(s: &[u8], at: usize, left: u8) -> Result<u8, Refusal>
 fn read_constant(s: &[u8], at: usize) -> Result<usize, Refusal>
     ensures { result ≡ read_of (constant_at s.now at) }
 {
-    if s.len() < 4 || s.len() - 4 < at {
+    if s.len().saturating_sub(at) < 4 {
         return Err(Reason::EndsEarly.at(s.len()));
     }
     Ok(at + 4)

@@ -5,7 +5,7 @@ use Rattle.definitions.specs.Grammar.{read_of, blocks_to}
 use Rattle.std.proofs.Common.{◌∙◌}
 use Rattle.definitions.proofs.Handed.{handed}
 use Rattle.readers.proofs.Laws.{told}
-use Rattle.readers.proofs.RuleLaws.{blocks-next, blocks-refused, blocks-all}
+use Rattle.readers.proofs.RuleLaws.{blocks-next, blocks-refused}
 use Rattle.readers.proofs.read_blocks.Goals as goal
 
 pub loop-block-init : goal.loop-block-init
@@ -17,6 +17,3 @@ returns-in_err-at c = handed _ _ c.from_residual.ensures ∙ sym (blocks-refused
 
 pub loop-block-preserved : goal.loop-block-preserved
 loop-block-preserved c = (omega arith, blocks-next _ _ _ _ _ _ c.loop-block.invariant.1 (told c.read_block.ensures c.in_ok-at.was))
-
-pub returns : goal.returns
-returns c = blocks-all _ _ _ _ _ c.loop-block-test.false c.loop-block.invariant.0 c.loop-block.invariant.1

@@ -1,32 +1,14 @@
--- `readers::exprs::read_constant` meets its contract: the tests say whether four bytes are there, with no sum that could wrap.
-use Prim.Native.Nat.{ℕ, ◌+◌, ◌-◌, ◌≤◌, ◌<◌}
+-- `readers::exprs::read_constant` meets its contract: the test says whether four bytes are there, with no sum that could wrap.
 use native.Mathlib.Omega.{arith}
-use mathlib.Core.Path.{◌≡◌}
-use mathlib.Core.Bool.{true, false}
-use lib.Dec.{leb}
 use borrow.Author.Tests.{le-leb, lt-leb}
 use Rattle.definitions.specs.Grammar.{read_of}
+use Rattle.std.proofs.Common.{◌+◌, length}
 use Rattle.readers.proofs.exprs.read_constant.Goals as goal
-use Rattle.readers.proofs.exprs.read_constant.Goals.{then-s-lt4-via-then-s-lt4, then-s-lt4-via-else-s-lt4+then-s-at}
 
-module _ (at size : ℕ) where
-  tiny : size < 4 → leb (at + 4) size ≡ false
-  tiny h = lt-leb (at + 4) size (omega arith)
-
-  short : 4 ≤ size → size - 4 < at → leb (at + 4) size ≡ false
-  short h e = lt-leb (at + 4) size (omega arith)
-
-  there : 4 ≤ size → at ≤ size - 4 → leb (at + 4) size ≡ true
-  there h e = le-leb (at + 4) size (omega arith)
-
-pub returns-then-s-lt4 : goal.returns-then-s-lt4
+pub returns-then-saturating_sub-lt4 : goal.returns-then-saturating_sub-lt4
 unfolding read_of
-returns-then-s-lt4 c =
-    elim c.then-s-lt4.branch [
-      | then-s-lt4-via-then-s-lt4 w ↦ simp (c.at.ensures, tiny c.args.at _ w.if-s-lt4.true)
-      | then-s-lt4-via-else-s-lt4+then-s-at w ↦ simp (c.at.ensures, short _ _ w.if-s-lt4.false w.if-s-at.true)
-    ]
+returns-then-saturating_sub-lt4 c = simp (c.at.ensures, lt-leb (c.args.at + 4) (length c.args.s.now) (omega arith))
 
 pub returns : goal.returns
 unfolding read_of
-returns c = simp (there _ _ c.if-s-lt4.false c.if-s-at.false)
+returns c = simp (le-leb (c.args.at + 4) (length c.args.s.now) (omega arith))
