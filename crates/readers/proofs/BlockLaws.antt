@@ -15,7 +15,7 @@ use Rattle.definitions.specs.Refusals.{Reply}
 use Rattle.readers.specs.Readings.{tag_at, due_of, second, stmt_at, stmt_body, is_stmt, begins}
 use Rattle.readers.specs.Accepted.{StmtIn}
 use Rattle.definitions.proofs.Handed.{handed}
-use Rattle.readers.proofs.Laws.{told, made, goes, stays, Handed, then_one, then-two, by_tag, no_tag, levelled, of_tag}
+use Rattle.readers.proofs.Laws.{told, made, goes, ends, Handed, then_one, then-two, by_tag, no_tag, levelled, of_tag}
 use Rattle.readers.proofs.Sound.{Sound}
 use Rattle.readers.proofs.Accepted.{set-sound, emit_sound}
 use Rattle.std.specs.Prelude.{Ok, Err}
@@ -146,14 +146,15 @@ module _ (ts : ℕ) (v : ℕ) (s : List ℕ) where
         go no_stmt e = refl
 
     -- the same of the readers' answers
-    pub block_goes : (m : ℕ) → begins s at ≡ true → read_of (stmt_at v s at) ≡ Ok m → read_of (block_at ts v s at) ≡ read_of (block_at ts v s m)
-    block_goes m e h = ap read_of (block-stmt e) ∙ then_one with_first (stmt_at v s at) (block_at ts v s) ∙ sym (goes (stmt_at v s at) _ m _ h (λ _. refl))
+    module _ {b : Bool} (t : b ≡ begins s at) where
+      pub block_goes : (m : ℕ) {q : Reply} → b ≡ true → q ≡ read_of (stmt_at v s at) → q ≡ Ok m → read_of (block_at ts v s at) ≡ read_of (block_at ts v s m)
+      block_goes m y d w = ap read_of (block-stmt (told t y)) ∙ then_one with_first (stmt_at v s at) (block_at ts v s) ∙ sym (goes (stmt_at v s at) _ m _ (told d w) (λ _. refl))
 
-    pub block_refused : (r : Refusal) → begins s at ≡ true → read_of (stmt_at v s at) ≡ Err r → read_of (block_at ts v s at) ≡ Err r
-    block_refused r e h = ap read_of (block-stmt e) ∙ sym (stays (stmt_at v s at) _ r h)
+      pub block_refused : (r : Reply) (e : Refusal) {q : Reply} → b ≡ true → Handed r e → q ≡ read_of (stmt_at v s at) → q ≡ Err e → r ≡ read_of (block_at ts v s at)
+      block_refused r e y h d w = ends (stmt_at v s at) _ e r h d w ∙ sym (ap read_of (block-stmt (told t y)))
 
-    pub block-done : begins s at ≡ false → read_of (block_at ts v s at) ≡ read_of (end_at levels ts v s at)
-    block-done e = ap read_of (block-ending e) ∙ made _ (end_at levels ts v s at)
+      pub block-done : b ≡ false → read_of (end_at levels ts v s at) ≡ read_of (block_at ts v s at)
+      block-done y = sym (ap read_of (block-ending (told t y)) ∙ made _ (end_at levels ts v s at))
 
 -- each way to go on by a tag
 pub ruleset of_end = (of_tag, end-stop)

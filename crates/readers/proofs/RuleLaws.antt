@@ -43,9 +43,6 @@ module _ (n v : ℕ) (s : List ℕ) where
       let q : suc k + (n - suc k) ≡ n = omega arith in
       ap (λ m. read_of (blocks_to n v s m)) (sym q) ∙ blocks_stay (suc k) (n - suc k) r (by-block k at (Err r) e f)
 
-  pub blocks-all : (k at : ℕ) → n ≤ k → k ≤ n → read_of (blocks_to n v s k) ≡ Ok at → Ok at ≡ read_of (blocks_to n v s n)
-  blocks-all k at l u e = let q : k ≡ n = omega arith in sym e ∙ ap (λ m. read_of (blocks_to n v s m)) q
-
 -- ---- the rule
 -- what follows the header is what follows its reading
 headed-then : {A : Type 0} (s : List ℕ) (rest : Got A) → headed s rest ≡ then (header_at s) (λ _ _. rest)

@@ -2,7 +2,6 @@
 -- The measure is what is left of the bytes, of which each statement takes some.
 use native.Mathlib.Omega.{arith}
 use Rattle.std.proofs.Common.{sym, ◌∙◌}
-use Rattle.definitions.proofs.Handed.{handed}
 use Rattle.readers.proofs.Laws.{told}
 use Rattle.readers.proofs.Sound.{sound-next}
 use Rattle.readers.proofs.Accepted.{stmt_sound}
@@ -13,10 +12,10 @@ pub loop-next-smaller : goal.loop-next-smaller
 loop-next-smaller c = omega (arith, sound-next _ _ _ _ (stmt_sound c.args.v c.args.s.now c.loop-next.next) _ (told c.read_stmt.ensures c.in_ok-next.was))
 
 pub loop-next-preserved : goal.loop-next-preserved
-loop-next-preserved c = c.loop-next.invariant ∙ block_goes _ _ _ _ _ (told c.begins_stmt.ensures c.loop-next-test.true) (told c.read_stmt.ensures c.in_ok-next.was)
+loop-next-preserved c = c.loop-next.invariant ∙ block_goes _ _ _ _ c.begins_stmt.ensures _ c.loop-next-test.true c.read_stmt.ensures c.in_ok-next.was
 
 pub returns-in_err-next : goal.returns-in_err-next
-returns-in_err-next c = handed _ _ c.from_residual.ensures ∙ sym (c.loop-next.invariant ∙ block_refused _ _ _ _ _ (told c.begins_stmt.ensures c.loop-next-test.true) (told c.read_stmt.ensures c.in_err-next.was))
+returns-in_err-next c = block_refused _ _ _ _ c.begins_stmt.ensures _ _ c.loop-next-test.true c.from_residual.ensures c.read_stmt.ensures c.in_err-next.was ∙ sym c.loop-next.invariant
 
 pub returns : goal.returns
-returns c = c.read_end.ensures ∙ sym (c.loop-next.invariant ∙ block-done _ _ _ _ (told c.begins_stmt.ensures c.loop-next-test.false))
+returns c = c.read_end.ensures ∙ block-done _ _ _ _ c.begins_stmt.ensures c.loop-next-test.false ∙ sym c.loop-next.invariant
