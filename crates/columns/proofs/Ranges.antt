@@ -12,7 +12,9 @@ use Rattle.definitions.specs.Values.{Val, number, as_word, unset, Out, value, fa
 use Rattle.definitions.specs.declared.Flaw.{Flaw}
 use Rattle.definitions.specs.declared.Kind.{Kind}
 use Rattle.definitions.specs.declared.Kind.TheVariants.{ZeroDivisor, OutOfRange}
-use Rattle.definitions.specs.Rule.{Operator, Add, Subtract, Multiply, Divide, Remainder, Expr, Const, Var, Neg, Op, Case, Rule, size}
+use Rattle.definitions.specs.declared.Operator.{Operator}
+use Rattle.definitions.specs.declared.Operator.TheVariants.{Add, Subtract, Multiply, Divide, Remainder}
+use Rattle.definitions.specs.Rule.{Expr, Const, Var, Neg, Op, Case, Rule, size}
 use Rattle.definitions.specs.Meaning.{Where, further, applied, handed_up, negated, operated, eval, holds}
 use Rattle.definitions.specs.Direct.{State, goes_on, Round, jumped, finished, origin, start, joined, advance_from, advance, after_from, after}
 use Rattle.columns.specs.Range.{AllInRange, Bounded, worked, Constants, Ranged}

@@ -8,7 +8,9 @@ use lib.IntN.{ℤ}
 use lib.Dec.{ltb}
 use lib.ListN.{length, get_or, take, length-append}
 use Rattle.definitions.specs.Values.{Val, number, Out, value, fault, also, negation}
-use Rattle.definitions.specs.Rule.{Operator, Add, Subtract, Multiply, Divide, Remainder, Expr, Cond, Const, Var, Neg, Op, Case, Compare, Not, Join}
+use Rattle.definitions.specs.declared.Operator.{Operator}
+use Rattle.definitions.specs.declared.Operator.TheVariants.{Add, Subtract, Multiply, Divide, Remainder}
+use Rattle.definitions.specs.Rule.{Expr, Cond, Const, Var, Neg, Op, Case, Compare, Not, Join}
 use Rattle.definitions.specs.Rule.{Stmt, Set, Emit, End, Goto, Jump, Stop, If, Block, Rule, size, block_of}
 use Rattle.definitions.specs.Spelling.{operator_byte, expr_bytes, cond_bytes, stmt_bytes, end_bytes, in_turn, block_bytes, bytes_of, expr_size, cond_size, stmt_size, end_size, body_size, block_place}
 use Rattle.definitions.specs.Meaning.{Where, at_byte, flaw, applied, decided, handed_up, negated, operated, eval, holds}

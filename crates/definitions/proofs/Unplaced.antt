@@ -7,7 +7,8 @@ use lib.IntN.{ℤ, pos}
 use lib.Dec.{ltb}
 use lib.ListN.{length, set, length-map}
 use Rattle.definitions.specs.Values.{Word, Val, number, Out, value, fault, also, negation, words_of}
-use Rattle.definitions.specs.Rule.{Operator, Expr, Cond, Const, Var, Neg, Op, Case, Compare, Not, Join, Stmt, Set, Emit, End, Goto, Jump, Stop, If, Rule, size, block_of}
+use Rattle.definitions.specs.declared.Operator.{Operator}
+use Rattle.definitions.specs.Rule.{Expr, Cond, Const, Var, Neg, Op, Case, Compare, Not, Join, Stmt, Set, Emit, End, Goto, Jump, Stop, If, Rule, size, block_of}
 use Rattle.definitions.specs.Spelling.{expr_size, cond_size, stmt_size, end_size}
 use Rattle.definitions.specs.Meaning.{Where, nowhere, further, applied, decided, handed_up, negated, operated, eval, holds}
 use Rattle.definitions.specs.Direct.{Way, on, ended, onward, with, emitted, step, steps, Exit, to_block, to_round, to_stop, exit, Round, jumped, finished, leave, through, body_at, ending_at, walk}

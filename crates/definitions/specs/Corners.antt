@@ -4,7 +4,9 @@ use Rattle.std.specs.Prelude.{ℕ, ◌≡◌, refl, true, false, List, [], ◌�
 use Prim.{tt}
 use Rattle.std.specs.Borrow.{Bor}
 use Rattle.definitions.specs.Values.{Word, number, value, fault, settled, negation, sum, difference, quotient, remainder}
-use Rattle.definitions.specs.Rule.{Add, Multiply, Divide, Remainder, Less, Equal, And, Or}
+use Rattle.definitions.specs.declared.Operator.TheVariants.{Add, Multiply, Divide, Remainder}
+use Rattle.definitions.specs.declared.Relation.TheVariants.{Less, Equal}
+use Rattle.definitions.specs.declared.Joint.TheVariants.{And, Or}
 use Rattle.definitions.specs.Rule.{Expr, Cond, Const, Var, Neg, Op, Case, Compare, Not, Join, Stmt, Set, Emit, End, Goto, Jump, Stop, If, Block, Rule}
 use Rattle.definitions.specs.Grammar.{Got, got, refused, then, twos, expr_tag, op_tag, bad_expr, cond_tag, compare_tag, not_tag, join_tag, bad_cond, stmt_tag, no_stmt, end_tag, bad_end}
 use Rattle.definitions.specs.Grammar.{expr_at, cond_at, end_at, block_from, blocks_to, headed, parsed, rule_of}

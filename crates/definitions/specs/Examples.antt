@@ -3,7 +3,9 @@ use Rattle.std.specs.Prelude.{ℕ, zero, suc, ◌≡◌, refl, List, [], ◌∷�
 use Prim.{Unit, tt}
 use Rattle.std.proofs.Common.{add-one, ap}
 use Rattle.definitions.specs.Values.{Word, number, unset, value, fault, kind_number, settled, product, quotient, remainder}
-use Rattle.definitions.specs.Rule.{Add, Subtract, Less, Const, Var, Op, Compare, Set, Emit, Goto, Jump, Stop, If, Rule}
+use Rattle.definitions.specs.declared.Operator.TheVariants.{Add, Subtract}
+use Rattle.definitions.specs.declared.Relation.TheVariants.{Less}
+use Rattle.definitions.specs.Rule.{Const, Var, Op, Compare, Set, Emit, Goto, Jump, Stop, If, Rule}
 use Rattle.definitions.specs.Grammar.{Got, got, refused, then, twos, expr_at, end_at, block_from, blocks_to, headed, parsed, rule_of}
 use Rattle.definitions.specs.Spelling.{constant_bytes, expr_bytes, cond_bytes, stmt_bytes, end_bytes, in_turn, block_bytes, bytes_of}
 use Rattle.definitions.specs.Meaning.{at_byte, eval}

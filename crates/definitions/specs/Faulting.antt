@@ -1,7 +1,8 @@
 -- 02, K4: what a record says of a fault: the operator that stands at its place is the one at fault.
 use Rattle.std.specs.Prelude.{ℕ, ◌+◌, ◌≡◌, List, ◌++◌, ℤ, length}
 use Rattle.definitions.specs.Values.{Val, number, value, fault, negation, kind_number}
-use Rattle.definitions.specs.Rule.{Operator, Expr, Neg, Op}
+use Rattle.definitions.specs.declared.Operator.{Operator}
+use Rattle.definitions.specs.Rule.{Expr, Neg, Op}
 use Rattle.definitions.specs.Spelling.{expr_bytes}
 use Rattle.definitions.specs.Meaning.{Where, applied, eval}
 use Rattle.definitions.specs.declared.Kind.{Kind}

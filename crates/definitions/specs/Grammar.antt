@@ -1,7 +1,12 @@
 -- 01, The rule, byte by byte, Reply numbers 4 to 10, and K5 of 02: which bytes are which rule, and how all others are refused. Reading goes from the
 -- left, so the refusal that is met first is the one that is given.
 use Rattle.std.specs.Prelude.{ℕ, zero, suc, ◌+◌, ◌*◌, Bool, cond, not, ◌&&◌, List, [], ◌∷◌, ◌++◌, ltb, leb, eqb, ℤ, pos, ◌-ℤ◌, length, get_or}
-use Rattle.definitions.specs.Rule.{Operator, Add, Subtract, Multiply, Divide, Remainder, Relation, Less, Equal, Joint, And, Or}
+use Rattle.definitions.specs.declared.Operator.{Operator}
+use Rattle.definitions.specs.declared.Operator.TheVariants.{Add, Subtract, Multiply, Divide, Remainder}
+use Rattle.definitions.specs.declared.Relation.{Relation}
+use Rattle.definitions.specs.declared.Relation.TheVariants.{Less, Equal}
+use Rattle.definitions.specs.declared.Joint.{Joint}
+use Rattle.definitions.specs.declared.Joint.TheVariants.{And, Or}
 use Rattle.definitions.specs.Rule.{Expr, Cond, Const, Var, Neg, Op, Case, Compare, Not, Join, Stmt, Set, Emit, End, Goto, Jump, Stop, If, Block, Rule, size}
 use Rattle.definitions.specs.Paths.{goto_in}
 use Rattle.definitions.specs.Cycles.{cycle_of}

@@ -1,7 +1,12 @@
 -- 01, Meaning, and K4 of 02: what an expression and a condition come to, at the variables' values, and where a fault lies.
 use Rattle.std.specs.Prelude.{ℕ, ◌+◌, Bool, cond, not, List, ℤ, get_or}
 use Rattle.definitions.specs.Values.{Val, number, unset, Out, value, fault, also, negation, sum, difference, product, quotient, remainder, is_less, is_equal}
-use Rattle.definitions.specs.Rule.{Operator, Add, Subtract, Multiply, Divide, Remainder, Relation, Less, Equal, Joint, And, Or}
+use Rattle.definitions.specs.declared.Operator.{Operator}
+use Rattle.definitions.specs.declared.Operator.TheVariants.{Add, Subtract, Multiply, Divide, Remainder}
+use Rattle.definitions.specs.declared.Relation.{Relation}
+use Rattle.definitions.specs.declared.Relation.TheVariants.{Less, Equal}
+use Rattle.definitions.specs.declared.Joint.{Joint}
+use Rattle.definitions.specs.declared.Joint.TheVariants.{And, Or}
 use Rattle.definitions.specs.Rule.{Expr, Cond, Const, Var, Neg, Op, Case, Compare, Not, Join}
 use Rattle.definitions.specs.Spelling.{expr_size, cond_size}
 use Rattle.definitions.specs.declared.Kind.{Kind}

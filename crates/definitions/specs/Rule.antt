@@ -1,17 +1,8 @@
 -- 01, The rule, byte by byte: what a rule is, as a tree. Operators of a kind share a constructor. The tree holds no places.
 use Rattle.std.specs.Prelude.{ℕ, List, [], ℤ, length, get_or}
-
--- tags 04 to 08
-pub data Operator : Type 0 where
-  Add Subtract Multiply Divide Remainder : Operator
-
--- tags 10 and 11
-pub data Relation : Type 0 where
-  Less Equal : Relation
-
--- tags 13 and 14
-pub data Joint : Type 0 where
-  And Or : Joint
+use Rattle.definitions.specs.declared.Operator.{Operator}
+use Rattle.definitions.specs.declared.Relation.{Relation}
+use Rattle.definitions.specs.declared.Joint.{Joint}
 
 -- tags 01 to 09, and 10 to 14: expressions hold conditions and conditions hold expressions
 mutual

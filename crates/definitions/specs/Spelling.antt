@@ -1,6 +1,11 @@
 -- 01, The rule, byte by byte, from the tree's side: how each construct is written. Its size is the length of its bytes.
 use Rattle.std.specs.Prelude.{ℕ, ◌+◌, ◌-◌, ◌/◌, ◌%◌, List, [], ◌∷◌, ◌++◌, ℤ, pos, negsuc, length, take}
-use Rattle.definitions.specs.Rule.{Operator, Add, Subtract, Multiply, Divide, Remainder, Relation, Less, Equal, Joint, And, Or}
+use Rattle.definitions.specs.declared.Operator.{Operator}
+use Rattle.definitions.specs.declared.Operator.TheVariants.{Add, Subtract, Multiply, Divide, Remainder}
+use Rattle.definitions.specs.declared.Relation.{Relation}
+use Rattle.definitions.specs.declared.Relation.TheVariants.{Less, Equal}
+use Rattle.definitions.specs.declared.Joint.{Joint}
+use Rattle.definitions.specs.declared.Joint.TheVariants.{And, Or}
 use Rattle.definitions.specs.Rule.{Expr, Cond, Const, Var, Neg, Op, Case, Compare, Not, Join, Stmt, Set, Emit, End, Goto, Jump, Stop, If, Block, Rule, size}
 
 -- ---- constants

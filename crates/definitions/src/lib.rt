@@ -29,6 +29,28 @@ pub const DEPTH: u8 = 8;
 
 pub const LEVELS: u8 = 4;
 
+// What a rule's operators, comparisons and joints do, each with its tag.
+#[derive(Clone, Copy, Debug, PartialEq, Eq)]
+pub enum Operator {
+    Add = 0x04,
+    Subtract = 0x05,
+    Multiply = 0x06,
+    Divide = 0x07,
+    Remainder = 0x08,
+}
+
+#[derive(Clone, Copy, Debug, PartialEq, Eq)]
+pub enum Relation {
+    Less = 0x10,
+    Equal = 0x11,
+}
+
+#[derive(Clone, Copy, Debug, PartialEq, Eq)]
+pub enum Joint {
+    And = 0x13,
+    Or = 0x14,
+}
+
 // Why an operator has no value, as the status of a row that ends so.
 #[derive(Clone, Copy, Debug, PartialEq, Eq)]
 pub enum Kind {

@@ -11,7 +11,8 @@ use lib.IntN.{ℤ, pos}
 use lib.ListN.{length, get_or}
 use Rattle.std.specs.Prelude.{Result, Ok, Err}
 use Rattle.definitions.specs.Values.{Word, value, negation}
-use Rattle.definitions.specs.Rule.{Joint, Expr, Cond, Const, Var, Op, Case, Compare, Not, Join}
+use Rattle.definitions.specs.declared.Joint.{Joint}
+use Rattle.definitions.specs.Rule.{Expr, Cond, Const, Var, Op, Case, Compare, Not, Join}
 use Rattle.definitions.specs.Grammar.{Got, got, refused, then, one, two, constant_in, constant_at, variable_at, expr_at, cond_at, expr_body, cond_body}
 use Rattle.definitions.specs.Grammar.{expr_tag, cond_tag}
 use Rattle.definitions.specs.Meaning.{at_byte, applied, compared, decided, handed_up, operated, related, eval, holds}

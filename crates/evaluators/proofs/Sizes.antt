@@ -4,7 +4,10 @@ use native.Mathlib.Omega.{arith}
 use mathlib.Core.Path.{◌≡◌, sym, ap, ◌∙◌}
 use mathlib.Core.List.{List, [], ◌++◌}
 use lib.ListN.{length, get_or, length-append}
-use Rattle.definitions.specs.Rule.{Operator, Relation, Joint, Expr, Cond, End, Const, Var, Neg, Op, Case, Compare, Not, Join, Goto, Jump, Stop, If, Stmt, Set, Emit, Block}
+use Rattle.definitions.specs.declared.Operator.{Operator}
+use Rattle.definitions.specs.declared.Relation.{Relation}
+use Rattle.definitions.specs.declared.Joint.{Joint}
+use Rattle.definitions.specs.Rule.{Expr, Cond, End, Const, Var, Neg, Op, Case, Compare, Not, Join, Goto, Jump, Stop, If, Stmt, Set, Emit, Block}
 use Rattle.definitions.specs.Spelling.{expr_bytes, cond_bytes, stmt_bytes, end_bytes, in_turn, expr_size, cond_size, stmt_size, end_size, body_size}
 use Rattle.definitions.specs.Grammar.{Got, got, refused, then, one, two, constant_at, variable_at, target_at, expr_at, cond_at, end_at, expr_body, cond_body, end_body, depth, levels, set_at, emit_at, with_first, block_body, block_from, StmtTag, set_tag, emit_tag, no_stmt, stmt_tag}
 use Rattle.definitions.specs.Grammar.{ExprTag, const_tag, var_tag, neg_tag, case_tag, bad_expr, op_tag, expr_tag}

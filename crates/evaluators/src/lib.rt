@@ -8,10 +8,9 @@ ghost use Rattle.definitions.specs.Values.{negation};
 ghost use Rattle.definitions.specs.Rule.{Join};
 ghost use Rattle.definitions.specs.Grammar.{two, constant_in, expr_at, cond_at, longest, most_variables};
 ghost use Rattle.definitions.specs.Meaning.{applied, at_byte, handed_up};
-ghost use Rattle.values.specs.Tags.{operator_of, joint_of};
 ghost use Rattle.evaluators.specs.Answer.{Sized, Readable, placed, value_at, answer, holding, pairs, answers, picked, case_from};
 
-use definitions::{Flaw, Kind, LONGEST, VARIABLES};
+use definitions::{Flaw, Joint, Kind, LONGEST, Operator, VARIABLES};
 use tokens::skip;
 
 // The bytes of a rule, with any bytes after them.
@@ -54,11 +53,10 @@ fn negate_at(x: i32, at: u16, n: usize) -> Result<(i32, usize), Flaw>
     at_place(values::negate(x), at, n)
 }
 
-fn operate_at(tag: u8, x: i32, y: i32, at: u16, n: usize) -> Result<(i32, usize), Flaw>
-    requires { (4 ≤ tag) × (tag ≤ 8) }
-    ensures { result ≡ value_at (handed_up (at_byte at) (applied (operator_of tag) x y)) n }
+fn operate_at(op: Operator, x: i32, y: i32, at: u16, n: usize) -> Result<(i32, usize), Flaw>
+    ensures { result ≡ value_at (handed_up (at_byte at) (applied op x y)) n }
 {
-    at_place(values::operate(tag, x, y), at, n)
+    at_place(values::operate(op, x, y), at, n)
 }
 
 // ---- the evaluators
@@ -83,7 +81,7 @@ pub fn eval_expr(s: &Rule, at: usize, v: u8, left: u8, vars: &Vars) -> Result<(i
         // 04 to 08: nothing else can stand here
         _ => {
             let (x, y, n) = eval_two(s, next, v, less, vars)?;
-            operate_at(tag, x, y, place, n)
+            operate_at(values::operator(tag), x, y, place, n)
         }
     }
 }
@@ -157,14 +155,14 @@ pub fn eval_cond(s: &Rule, at: usize, v: u8, left: u8, vars: &Vars) -> Result<(b
     match tag {
         0x10 | 0x11 => {
             let (x, y, end) = eval_two(s, next, v, less, vars)?;
-            Ok((values::compare(tag, x, y), end))
+            Ok((values::compare(values::relation(tag), x, y), end))
         }
         0x12 => {
             let (h, n) = eval_cond(s, next, v, less, vars)?;
             Ok((!h, n))
         }
         // 13 and 14: nothing else can stand here
-        _ => eval_join(s, next, v, less, vars, tag),
+        _ => eval_join(s, next, v, less, vars, values::joint(tag)),
     }
 }
 
@@ -176,14 +174,13 @@ fn eval_join(
     v: u8,
     left: u8,
     vars: &Vars,
-    tag: u8,
+    j: Joint,
 ) -> Result<(bool, usize), Flaw>
-    requires sized { Sized v s.now × Readable (two (Join (joint_of tag)) (cond_at left v s.now) at) }
-    requires le_tag { (19 ≤ tag) × (tag ≤ 20) }
-    ensures { (place : ℕ) → at ≡ place + 1 → result ≡ holding (two (Join (joint_of tag)) (cond_at left v s.now) at) place vars.now }
+    requires { Sized v s.now × Readable (two (Join j) (cond_at left v s.now) at) }
+    ensures { (place : ℕ) → at ≡ place + 1 → result ≡ holding (two (Join j) (cond_at left v s.now) at) place vars.now }
 {
     let (h, n) = eval_cond(s, at, v, left, vars)?;
-    if values::decides(tag, h) {
+    if values::decides(j, h) {
         Ok((h, skip(s, n)))
     } else {
         eval_cond(s, n, v, left, vars)

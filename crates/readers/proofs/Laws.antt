@@ -9,7 +9,12 @@ use mathlib.Core.List.{List}
 use lib.Dec.{ltb, eqb, eqb-suc-zero}
 use lib.ListN.{length, get_or}
 use borrow.Author.Tests.{ltb-true, eqb-true, eqb-false, ne_eqb}
-use Rattle.definitions.specs.Rule.{Operator, Add, Subtract, Multiply, Divide, Remainder, Relation, Less, Equal, Joint, And, Or}
+use Rattle.definitions.specs.declared.Operator.{Operator}
+use Rattle.definitions.specs.declared.Operator.TheVariants.{Add, Subtract, Multiply, Divide, Remainder}
+use Rattle.definitions.specs.declared.Relation.{Relation}
+use Rattle.definitions.specs.declared.Relation.TheVariants.{Less, Equal}
+use Rattle.definitions.specs.declared.Joint.{Joint}
+use Rattle.definitions.specs.declared.Joint.TheVariants.{And, Or}
 use Rattle.definitions.specs.Rule.{Expr, Cond, Const, Var, Neg, Op, Case, Compare, Not, Join}
 use Rattle.definitions.specs.Grammar.{Got, got, refused, then, read_of, byte_at, one, two, constant_at, variable_at, expr_at, cond_at, expr_body, cond_body, expr_tag, cond_tag}
 use Rattle.definitions.specs.Grammar.{ExprTag, const_tag, var_tag, neg_tag, case_tag, bad_expr, op_tag, CondTag, not_tag, bad_cond, compare_tag, join_tag}

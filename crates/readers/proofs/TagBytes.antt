@@ -4,7 +4,12 @@ use mathlib.Core.Path.{◌≡◌, refl}
 use mathlib.Core.Bool.{Bool, true, false, cond}
 use lib.Dec.{eqb}
 use borrow.Author.Tests.{eqb-true}
-use Rattle.definitions.specs.Rule.{Operator, Add, Subtract, Multiply, Divide, Remainder, Relation, Less, Equal, Joint, And, Or}
+use Rattle.definitions.specs.declared.Operator.{Operator}
+use Rattle.definitions.specs.declared.Operator.TheVariants.{Add, Subtract, Multiply, Divide, Remainder}
+use Rattle.definitions.specs.declared.Relation.{Relation}
+use Rattle.definitions.specs.declared.Relation.TheVariants.{Less, Equal}
+use Rattle.definitions.specs.declared.Joint.{Joint}
+use Rattle.definitions.specs.declared.Joint.TheVariants.{And, Or}
 use Rattle.definitions.specs.Grammar.{ExprTag, const_tag, var_tag, neg_tag, case_tag, bad_expr, op_tag, expr_tag, CondTag, not_tag, bad_cond, compare_tag, join_tag, cond_tag}
 use Rattle.definitions.specs.Grammar.{StmtTag, set_tag, emit_tag, no_stmt, stmt_tag, EndTag, goto_tag, jump_tag, stop_tag, if_tag, bad_end, end_tag}
 use Rattle.definitions.specs.Spelling.{operator_byte, relation_byte, joint_byte}

@@ -1,6 +1,11 @@
 -- What the tags of operators, comparisons and joints name. That the grammar reads them so is shown in proofs/Tags.antt.
 use Rattle.std.specs.Prelude.{ℕ, cond, eqb}
-use Rattle.definitions.specs.Rule.{Operator, Add, Subtract, Multiply, Divide, Remainder, Relation, Less, Equal, Joint, And, Or}
+use Rattle.definitions.specs.declared.Operator.{Operator}
+use Rattle.definitions.specs.declared.Operator.TheVariants.{Add, Subtract, Multiply, Divide, Remainder}
+use Rattle.definitions.specs.declared.Relation.{Relation}
+use Rattle.definitions.specs.declared.Relation.TheVariants.{Less, Equal}
+use Rattle.definitions.specs.declared.Joint.{Joint}
+use Rattle.definitions.specs.declared.Joint.TheVariants.{And, Or}
 
 -- of 04 to 08
 unfoldable pub operator_of : ℕ → Operator

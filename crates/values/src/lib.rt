@@ -8,7 +8,7 @@ ghost use Rattle.definitions.specs.Grammar.{word_of, twos, constant_in};
 ghost use Rattle.values.specs.Tags.{operator_of, relation_of, joint_of};
 ghost use Rattle.values.specs.Words.{constants_in};
 
-use definitions::Kind;
+use definitions::{Joint, Kind, Operator, Relation};
 
 // The corner of division: the first of these by the second has no quotient in range.
 const LEAST: i32 = i32::MIN;
@@ -79,41 +79,71 @@ pub fn remainder(x: i32, y: i32) -> Result<i32, Kind>
     }
 }
 
-// ---- by their tags
+// ---- what the tags name: nothing but these stands where the grammar reads one
 
-// The operator that the tag names.
-pub fn operate(tag: u8, x: i32, y: i32) -> Result<i32, Kind>
-    requires { (4 ≤ tag) × (tag ≤ 8) }
-    ensures { result ≡ outcome_of (applied (operator_of tag) x y) }
+// Of 04 to 08.
+pub fn operator(tag: u8) -> Operator
+    ensures { result ≡ operator_of tag }
 {
     match tag {
-        0x04 => add(x, y),
-        0x05 => subtract(x, y),
-        0x06 => multiply(x, y),
-        0x07 => divide(x, y),
-        _ => remainder(x, y),
+        0x04 => Operator::Add,
+        0x05 => Operator::Subtract,
+        0x06 => Operator::Multiply,
+        0x07 => Operator::Divide,
+        _ => Operator::Remainder,
     }
 }
 
-// The comparison that the tag names.
-pub fn compare(tag: u8, x: i32, y: i32) -> bool
-    requires { (16 ≤ tag) × (tag ≤ 17) }
-    ensures { result ≡ compared (relation_of tag) x y }
+// Of 10 and 11.
+pub fn relation(tag: u8) -> Relation
+    ensures { result ≡ relation_of tag }
 {
     match tag {
-        0x10 => less(x, y),
-        _ => equal(x, y),
+        0x10 => Relation::Less,
+        _ => Relation::Equal,
     }
 }
 
-// Whether the left side of the and, or of the or, that the tag names decides it.
-pub fn decides(tag: u8, held: bool) -> bool
-    requires { (19 ≤ tag) × (tag ≤ 20) }
-    ensures { result ≡ decided (joint_of tag) held }
+// Of 13 and 14.
+pub fn joint(tag: u8) -> Joint
+    ensures { result ≡ joint_of tag }
 {
     match tag {
-        0x13 => !held,
-        _ => held,
+        0x13 => Joint::And,
+        _ => Joint::Or,
+    }
+}
+
+// ---- by their kinds
+
+pub fn operate(op: Operator, x: i32, y: i32) -> Result<i32, Kind>
+    ensures { result ≡ outcome_of (applied op x y) }
+{
+    match op {
+        Operator::Add => add(x, y),
+        Operator::Subtract => subtract(x, y),
+        Operator::Multiply => multiply(x, y),
+        Operator::Divide => divide(x, y),
+        Operator::Remainder => remainder(x, y),
+    }
+}
+
+pub fn compare(r: Relation, x: i32, y: i32) -> bool
+    ensures { result ≡ compared r x y }
+{
+    match r {
+        Relation::Less => less(x, y),
+        Relation::Equal => equal(x, y),
+    }
+}
+
+// Whether the left side alone decides the and, or the or.
+pub fn decides(j: Joint, held: bool) -> bool
+    ensures { result ≡ decided j held }
+{
+    match j {
+        Joint::And => !held,
+        Joint::Or => held,
     }
 }
 

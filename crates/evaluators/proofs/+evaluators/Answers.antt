@@ -78,8 +78,8 @@ eval_cond-eval_two-requires t c =
 pub eval_cond-eval_join-requires : goal.eval_cond-eval_join-requires
 eval_cond-eval_join-requires t c =
     let a = c.args in
-    let j = joint t c in
-    (omega (arith, (cond_there a.left a.v a.s.now a.at c.requires).1), ((c.requires.0, laws.join_stands a.left a.v a.s.now a.at c.requires.1 j.0 j.1), j))
+    let j = joint t (goal.at.eval_cond-eval_join-requires t c).In_default in
+    (omega (arith, (cond_there a.left a.v a.s.now a.at c.requires).1), (c.requires.0, rw c.joint.ensures (laws.join_stands a.left a.v a.s.now a.at c.requires.1 j.0 j.1)))
 
 pub eval_cond-returns-in_ok-h-in-18 : goal.eval_cond-returns-in_ok-h-in-18
 eval_cond-returns-in_ok-h-in-18 t c =
@@ -95,7 +95,7 @@ pub eval_cond-returns-in_ok-x-in-16 : goal.eval_cond-returns-in_ok-x-in-16
 eval_cond-returns-in_ok-x-in-16 t c =
     let a = c.args in
     let r = c.in_ok-x-in-16 in
-    laws.compare-values a.left a.v a.s.now a.at c.requires.1 (omega arith) (omega arith) _ _ _ _ _ (told c.eval_two.ensures r.was) (rw (bound r.x (omega arith), bound r.y (omega arith)) at c.compare.ensures)
+    laws.compare-values a.left a.v a.s.now a.at c.requires.1 (omega arith) (omega arith) _ _ _ _ _ (told c.eval_two.ensures r.was) (rw (bound r.x (omega arith), bound r.y (omega arith), c.relation.ensures) at c.compare.ensures)
 
 pub eval_cond-returns-in_err-x-in-16 : goal.eval_cond-returns-in_err-x-in-16
 eval_cond-returns-in_err-x-in-16 t c =
@@ -106,7 +106,7 @@ pub eval_cond-returns-in_default : goal.eval_cond-returns-in_default
 eval_cond-returns-in_default t c =
     let a = c.args in
     let j = joint t (goal.at.eval_cond-returns-in_default t c).In_default in
-    rw (laws.cond-join a.left a.v a.s.now a.at c.requires.1 j.0 j.1) (c.eval_join.ensures a.at refl)
+    rw (laws.cond-join a.left a.v a.s.now a.at c.requires.1 j.0 j.1) (rw c.joint.ensures at c.eval_join.ensures a.at refl)
 
 -- ---- eval_expr
 -- a tag stands there, and a level is left
@@ -157,9 +157,6 @@ eval_expr-eval_two-requires t c =
     let o = operator t c in
     (omega (arith, (expr_there a.left a.v a.s.now a.at c.requires).1), (c.requires.0, laws.op-stands a.left a.v a.s.now a.at c.requires.1 o.0 o.1))
 
-pub eval_expr-operate_at-requires : goal.eval_expr-operate_at-requires
-eval_expr-operate_at-requires t c = operator t (goal.at.eval_expr-operate_at-requires t c).In_default
-
 pub eval_expr-returns-in-1 : goal.eval_expr-returns-in-1
 eval_expr-returns-in-1 t c =
     let a = c.args in
@@ -191,7 +188,7 @@ eval_expr-returns-in_ok-x-in_default t c =
     let a = c.args in
     let o = operator t (goal.at.eval_expr-returns-in_ok-x-in_default t c).In_default in
     let r = c.in_ok-x-in_default in
-    laws.op-values a.left a.v a.s.now a.at c.requires.1 o.0 o.1 _ _ _ _ _ (told c.eval_two.ensures r.was) (rw (bound r.x (omega arith), bound r.y (omega arith)) at c.operate_at.ensures)
+    laws.op-values a.left a.v a.s.now a.at c.requires.1 o.0 o.1 _ _ _ _ _ (told c.eval_two.ensures r.was) (rw (bound r.x (omega arith), bound r.y (omega arith), c.operator.ensures) at c.operate_at.ensures)
 
 pub eval_expr-returns-in_err-x-in_default : goal.eval_expr-returns-in_err-x-in_default
 eval_expr-returns-in_err-x-in_default t c =
@@ -201,24 +198,24 @@ eval_expr-returns-in_err-x-in_default t c =
 
 -- ---- eval_join
 pub eval_join-eval_cond-requires : goal.eval_join-eval_cond-requires
-eval_join-eval_cond-requires t c = (omega arith, (c.requires.sized.0, laws.then-first _ _ c.requires.sized.1))
+eval_join-eval_cond-requires t c = (omega arith, (c.requires.0, laws.then-first _ _ c.requires.1))
 
 pub eval_join-eval_cond-requires-else-decides : goal.eval_join-eval_cond-requires-else-decides
 eval_join-eval_cond-requires-else-decides t c =
     let a = c.args in
-    (omega arith, (c.requires.sized.0, laws.join_next a.left a.v a.s.now a.at a.vars.now _ c.requires.sized.1 _ _ (told c.eval_cond.ensures c.in_ok-h.was)))
+    (omega arith, (c.requires.0, laws.join_next a.left a.v a.s.now a.at a.vars.now _ c.requires.1 _ _ (told c.eval_cond.ensures c.in_ok-h.was)))
 
 pub eval_join-returns-in_err-h : goal.eval_join-returns-in_err-h
-eval_join-returns-in_err-h t c p i = passed _ _ c.from_residual.ensures.1 ∙ laws.join_fault _ _ _ _ _ _ c.requires.sized.1 _ p i (told c.eval_cond.ensures c.in_err-h.was)
+eval_join-returns-in_err-h t c p i = passed _ _ c.from_residual.ensures.1 ∙ laws.join_fault _ _ _ _ _ _ c.requires.1 _ p i (told c.eval_cond.ensures c.in_err-h.was)
 
 pub eval_join-returns-then-decides : goal.eval_join-returns-then-decides
 eval_join-returns-then-decides t c p i =
     rw c.skip.ensures
-    (laws.join_left _ _ _ _ _ _ c.requires.sized.1 _ _ p i (told c.eval_cond.ensures c.in_ok-h.was) (told c.decides.ensures c.if-decides.true))
+    (laws.join_left _ _ _ _ _ _ c.requires.1 _ _ p i (told c.eval_cond.ensures c.in_ok-h.was) (told c.decides.ensures c.if-decides.true))
 
 pub eval_join-returns-else-decides : goal.eval_join-returns-else-decides
 eval_join-returns-else-decides t c p i =
-    laws.join_right _ _ _ _ _ _ c.requires.sized.1 _ _ _ p i (told c.eval_cond.ensures c.in_ok-h.was) (told c.decides.ensures c.if-decides.false) c.eval_cond-else-decides.ensures
+    laws.join_right _ _ _ _ _ _ c.requires.1 _ _ _ p i (told c.eval_cond.ensures c.in_ok-h.was) (told c.decides.ensures c.if-decides.false) c.eval_cond-else-decides.ensures
 
 -- ---- eval_operand
 pub eval_operand-bounds-s-at : goal.eval_operand-bounds-s-at

@@ -1,8 +1,8 @@
--- `values::decides` meets its contract.
+-- `values::joint` meets its contract.
 use borrow.Author.Tests.{ne_eqb}
 use native.Mathlib.Omega.{arith}
 use Rattle.values.specs.Tags.{joint_of}
-use Rattle.values.proofs.decides.Goals as goal
+use Rattle.values.proofs.joint.Goals as goal
 
 pub returns-in-19 : goal.returns-in-19
 unfolding joint_of
