@@ -28,7 +28,7 @@ fn byte(s: &[u8], at: usize) -> u8
     s.get(at).copied().unwrap_or(0)
 }
 
-// How many bytes on the next tag stands. A tag stays the byte that the definitions name, here and where tags are matched: an enum of them would be that table once more.
+// How many bytes on the next tag stands. A tag stays the byte that the definitions name, here and where one is matched: an enum of all of them would be their table once more.
 fn width_of(tag: u8) -> usize
     ensures { result ≡ tag_width tag }
 {
