@@ -6,7 +6,6 @@ use mathlib.Core.List.{List, [], ◌∷◌, ◌++◌, append_assoc, append-nil}
 use native.Mathlib.Omega.{arith}
 use native.Mathlib.Nat.{zero-add, add-zero, add-suc}
 use lib.ListN.{length, replicate, length-append, length-replicate, length-set}
-use borrow.Author.Tests.{eqb-true, eqb-false}
 use Rattle.definitions.specs.Values.{Val, unset}
 use Rattle.definitions.specs.Rule.{Rule, size}
 use Rattle.definitions.proofs.Ends.{goes-unfinished, above-ended, no-both}

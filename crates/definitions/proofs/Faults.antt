@@ -19,7 +19,6 @@ use Rattle.definitions.specs.Faulting.{OwnFault, negating, operating, Among, Tel
 use Rattle.definitions.specs.Direct.{State, status_number, fault_place, goes_on, joined, start, advance_from, advance, after_from, after}
 use Rattle.definitions.specs.declared.Kind.{Kind}
 use Rattle.definitions.specs.declared.Flaw.{Flaw}
-use Rattle.definitions.specs.declared.Finish.{Finish}
 use Rattle.definitions.specs.declared.Finish.TheVariants.{QuotaFull}
 
 -- ---- among the bytes of a part is among those of the whole
