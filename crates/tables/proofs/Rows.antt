@@ -139,7 +139,7 @@ quiet-map g d k (s ∷ ss) h = go (goes_on s.finish) refl (quiet-map g d (k + 1)
     go true e rest = absurd (omega (arith, rw e at h))
     go false e rest = rw (d k s e, rest (omega (arith, rw e at h)))
 
-one : (b : Bool) → cond b 1 0 ≤ 1
+pub one : (b : Bool) → cond b 1 0 ≤ 1
 one true = omega arith
 one false = omega arith
 

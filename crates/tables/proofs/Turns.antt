@@ -28,6 +28,8 @@ use Rattle.layouts.specs.declared.Row.{Row}
 use Rattle.layouts.proofs.Sizes.{lines-low}
 use Rattle.layouts.proofs.Looks.{line-fits, record_fits, mask-all, columns-mask}
 use Rattle.tables.specs.Table.{Turned}
+use Rattle.tables.specs.Runs.{Runs, rule_of, budget_in, step_of}
+use Rattle.tables.specs.declared.Run.{Run}
 use Rattle.tables.proofs.Rows.{Stepwise}
 
 -- ---- N rounds are a step
@@ -51,6 +53,9 @@ module _ (r : Rule) (q : ℕ) where
   -- row i by its own N i
   pub step : Proper r → (N : ℕ → ℕ) → Stepwise r q (λ i. after r q (N i))
   step ok N = record { done = λ i s e. after-done r q (N i) s e; sound = λ i s h. after-now r q ok s h (N i); begun = λ i s. after_more (N i) s }
+
+pub steps : {run : Run} → Runs run → Stepwise (rule_of run) run.layout.quota (step_of run)
+steps {run} h = step (rule_of run) run.layout.quota h.known.proper (budget_in run)
 
 -- the place of a line is a small number
 pub line_low : {r : Rule} {l : Layout} → Known r l → (i : ℕ) → i ≤ most_rows → i * l.size ≤ most_rows * line_size most_columns

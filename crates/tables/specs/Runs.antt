@@ -6,9 +6,29 @@ use Rattle.definitions.specs.Columns.{flow_of, LC}
 use Rattle.definitions.specs.Batch.{Budgets, budget_of, record_size, starts_of, states_of, records_of, table_of, most_of}
 use Rattle.definitions.specs.Finder.{most_rows, most_quota}
 use Rattle.definitions.specs.Calls.{most_budget, left}
+use Rattle.definitions.specs.Direct.{State, after}
+use Rattle.plans.specs.Accepted.{rule_in}
+use Rattle.carries.specs.Carry.{Running}
+use Rattle.tables.specs.Table.{budgets_in}
+use Rattle.tables.specs.declared.Run.{Run}
 use Rattle.layouts.specs.Layout.{width, lines_in, Known}
 use Rattle.layouts.specs.declared.Layout.{Layout}
 use Rattle.std.specs.Prelude.{Ok}
+
+-- the rule of a run, how many rounds a row of it may begin, and how far it goes by them
+abbrev pub rule_of : Run → Rule
+rule_of run = rule_in run.plan.now
+
+abbrev pub budget_in : Run → ℕ → ℕ
+budget_in run = budget_of (budgets_in run.budgets)
+
+abbrev pub step_of : Run → ℕ → State → State
+step_of run i = after (rule_of run) run.layout.quota (budget_in run i)
+
+-- a run of an accepted plan, with its rule's bytes and layout
+pub record Runs (run : Run) : Type 0 where
+  pub running : Running run.plan.now run.rule.now
+  pub known : Known (rule_of run) run.layout
 
 -- numbers that keep to their limits: so many values, and so many words of the two buffers
 pub record Allowed (l : Layout) (rows : ℕ) (bs : Budgets) (values out work : ℕ) : Type 0 where

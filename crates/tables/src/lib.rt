@@ -2,18 +2,17 @@
 #![tactic(auto)]
 
 ghost use Rattle.std.specs.Prelude.{◌≤◌, length, ◌≡◌};
-ghost use Rattle.definitions.specs.Direct.{after};
 ghost use Rattle.definitions.specs.Batch.{budget_of};
 ghost use Rattle.plans.specs.Accepted.{rule_in};
 ghost use Rattle.carries.specs.Carry.{Running};
 ghost use Rattle.layouts.specs.Layout.{Known};
 ghost use Rattle.layouts.specs.Rows.{RowAt};
 ghost use Rattle.tables.specs.Table.{budgets_in, RowMayBegin, Turned, Table, RowsMayBegin, AfterPass};
-ghost use Rattle.tables.specs.Runs.{Allowed, ToStart, Started, RowsRun};
+ghost use Rattle.tables.specs.Runs.{Runs, rule_of, budget_in, step_of, Allowed, ToStart, Started, RowsRun};
 
 use carries::{Spot, carry};
 use definitions::Finish;
-use layouts::{Layout, Line, fetch, put_line, put_record, read_row, record_at};
+use layouts::{Layout, Line, Row, fetch, put_line, put_record, read_row, record_at};
 use rounds::Rule;
 
 // ---- budgets
@@ -37,118 +36,114 @@ impl Budgets<'_> {
     }
 }
 
-// ---- one row
+// ---- what a run goes by
+
+// An accepted plan, its rule's bytes, the layout of its rows, and their budgets.
+#[derive(Clone, Copy)]
+struct Run<'a> {
+    plan: &'a [u8],
+    rule: &'a Rule,
+    layout: Layout,
+    budgets: Budgets<'a>,
+}
 
 // Where a row's line is read, and where it is written if the row goes on.
 #[derive(Drop)]
-pub struct Move {
-    pub from: usize,
-    pub to: usize,
+struct Move {
+    from: usize,
+    to: usize,
 }
 
 // How far a row has come.
 #[derive(Drop)]
-pub struct Stage {
-    pub finish: Finish,
-    pub begun: usize,
+struct Stage {
+    finish: Finish,
+    begun: usize,
 }
-
-// As many rounds as its budget says of the row whose line is moved: its record is written anew, and its line if it goes on.
-fn turn(
-    plan: &[u8],
-    rule: &Rule,
-    l: Layout,
-    budgets: Budgets,
-    m: Move,
-    out: &mut [i32],
-    work: &mut [i32],
-) -> Stage
-    requires running { Running plan.now rule.now × (Known (rule_in plan.now) l × (m.to ≤ m.from)) }
-    requires row_may_begin { RowMayBegin (budget_of (budgets_in budgets)) (rule_in plan.now) l.quota m.from out.old work.old }
-    ensures { (k : RowAt (rule_in plan.now) l.quota m.from out.old work.old)
-        → Turned (rule_in plan.now) l.quota k.row m.to (after (rule_in plan.now) l.quota (budget_of (budgets_in budgets.entry) k.row) k.state)
-        out.old work.old result out.new work.new }
-{
-    let row = read_row(out, work, m.from, l);
-    let mut labels = row.labels;
-    let mut vars = row.vars;
-    let spot = Spot {
-        block: row.block,
-        count: row.count,
-    };
-    let budget = budgets.of(row.row);
-    let c = carry(plan, rule, l.quota, budget, spot, &mut labels, &mut vars);
-    let begun = row.begun + c.rounds;
-    let at = record_at(row.row, l.quota);
-    let finish = c.finish;
-    put_record(out, at, l.quota, finish, begun, &labels[..c.count]);
-    if finish.goes_on() {
-        let line = Line {
-            row: row.row,
-            block: c.block,
-            begun,
-        };
-        put_line(work, m.to, line, l, &vars);
-    }
-    Stage { finish, begun }
-}
-
-// ---- all rows
 
 // How many rows go on, and the most rounds that any row began.
 #[derive(Drop)]
-pub struct Standing {
-    pub live: usize,
-    pub most: usize,
+struct Standing {
+    live: usize,
+    most: usize,
 }
 
-// As many rounds of every unfinished row as its budget says, from wherever the rows stand. The lines of those that go on move up.
-fn pass(
-    plan: &[u8],
-    rule: &Rule,
-    l: Layout,
-    budgets: Budgets,
-    before: Standing,
-    out: &mut [i32],
-    work: &mut [i32],
-) -> Standing
-    requires running { Running plan.now rule.now × Known (rule_in plan.now) l }
-    requires rows_may_begin { RowsMayBegin (budget_of (budgets_in budgets)) (rule_in plan.now) l.quota before.live out.old work.old }
-    ensures { (t : Table (rule_in plan.now) l.quota before.live out.old work.old)
-        → AfterPass (rule_in plan.now) l.quota before out.old work.old t (λ i. after (rule_in plan.now) l.quota (budget_of (budgets_in budgets.entry) i))
-        result out.new work.new }
-{
-    let live = before.live;
-    let mut i: usize = 0;
-    let mut kept: usize = 0;
-    let mut top = before.most;
-    while i < live {
-        let m = Move {
-            from: i * l.size,
-            to: kept * l.size,
-        };
-        let s = turn(plan, rule, l, budgets, m, out, work);
-        if top < s.begun {
-            top = s.begun;
+impl Run<'_> {
+    // As many rounds as its budget says of the row whose line is moved: its record is written anew, and its line if it goes on.
+    fn turn(&self, m: Move, out: &mut [i32], work: &mut [i32]) -> Stage
+        requires running { Runs self.now × (m.to ≤ m.from) }
+        requires row_may_begin { RowMayBegin (budget_in self.now) (rule_of self.now) self.now.layout.quota m.from out.old work.old }
+        ensures { (k : RowAt (rule_of self.now) self.now.layout.quota m.from out.old work.old)
+            → Turned (rule_of self.now) self.now.layout.quota k.row m.to (step_of self.now k.row k.state) out.old work.old result out.new work.new }
+    {
+        let l = self.layout;
+        let Row {
+            row,
+            block,
+            begun,
+            count,
+            mut labels,
+            mut vars,
+        } = read_row(out, work, m.from, l);
+        let budget = self.budgets.of(row);
+        let spot = Spot { block, count };
+        let c = carry(
+            self.plan,
+            self.rule,
+            l.quota,
+            budget,
+            spot,
+            &mut labels,
+            &mut vars,
+        );
+        let begun = begun + c.rounds;
+        let at = record_at(row, l.quota);
+        let finish = c.finish;
+        put_record(out, at, l.quota, finish, begun, &labels[..c.count]);
+        if finish.goes_on() {
+            let line = Line {
+                row,
+                block: c.block,
+                begun,
+            };
+            put_line(work, m.to, line, l, &vars);
         }
-        if s.finish.goes_on() {
-            kept += 1;
-        }
-        i += 1;
+        Stage { finish, begun }
     }
-    Standing {
-        live: kept,
-        most: top,
+
+    // As many rounds of every unfinished row as its budget says, from wherever the rows stand. The lines of those that go on move up.
+    fn pass(&self, before: Standing, out: &mut [i32], work: &mut [i32]) -> Standing
+        requires running { Runs self.now }
+        requires rows_may_begin { RowsMayBegin (budget_in self.now) (rule_of self.now) self.now.layout.quota before.live out.old work.old }
+        ensures { (t : Table (rule_of self.now) self.now.layout.quota before.live out.old work.old)
+            → AfterPass (rule_of self.now) self.now.layout.quota before out.old work.old t (step_of self.now) result out.new work.new }
+    {
+        let size = self.layout.size;
+        let mut live = 0;
+        let mut most = before.most;
+        for i in 0..before.live {
+            let m = Move {
+                from: i * size,
+                to: live * size,
+            };
+            let s = self.turn(m, out, work);
+            most = most.max(s.begun);
+            if s.finish.goes_on() {
+                live += 1;
+            }
+        }
+        Standing { live, most }
     }
 }
+
+// ---- all rows
 
 // Every row's line at its start.
 fn put_starts(l: Layout, values: &[i32], rows: usize, work: &mut [i32])
     requires { ToStart l rows values.now work.old }
     ensures { (p : ToStart l rows values.now work.old) → Started p.rule values.now rows work.old work.new }
 {
-    let mut row: usize = 0;
-    while row < rows {
+    for row in 0..rows {
         let vars = fetch(values, row * l.arguments, l.arguments);
         let line = Line {
             row,
@@ -156,17 +151,16 @@ fn put_starts(l: Layout, values: &[i32], rows: usize, work: &mut [i32])
             begun: 0,
         };
         put_line(work, row * l.size, line, l, &vars);
-        row += 1;
     }
 }
 
 // All rows from their start on; the rest of the table is cleared. The most rounds that any row began.
-pub fn run_rows(
-    plan: &[u8],
-    rule: &Rule,
+pub fn run_rows<'a>(
+    plan: &'a [u8],
+    rule: &'a Rule,
     l: Layout,
     rows: usize,
-    budgets: Budgets,
+    budgets: Budgets<'a>,
     values: &[i32],
     out: &mut [i32],
     work: &mut [i32],
@@ -177,11 +171,17 @@ pub fn run_rows(
 {
     buffers::clear_at(out, 0, record_at(rows, l.quota));
     put_starts(l, values, rows, work);
+    let run = Run {
+        plan,
+        rule,
+        layout: l,
+        budgets,
+    };
     let first = Standing {
         live: rows,
         most: 0,
     };
-    let s = pass(plan, rule, l, budgets, first, out, work);
+    let s = run.pass(first, out, work);
     let live = s.live;
     buffers::clear_at(work, live * l.size, (rows - live) * l.size);
     s.most
