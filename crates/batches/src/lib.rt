@@ -143,7 +143,7 @@ pub fn run<'a>(
     batch.run(out, work)
 }
 
-// Runs a batch in which each row has a budget of its own.
+// Runs a batch in which each row has a budget of its own. Beside `run`, as callers and C have two names.
 pub fn run_each<'a>(
     plan: &'a [u8],
     rows: usize,

@@ -86,7 +86,7 @@ pub fn eval_expr(s: &Rule, at: usize, v: u8, left: u8, vars: &Vars) -> Result<(i
     }
 }
 
-// As `eval_expr`. Most operands are a constant or a variable, and these are worked out in place, with no call.
+// As `eval_expr`. Most operands are a constant or a variable, and these are worked out in place, with no call: kept beside it for speed (docs/BENCHMARK.md).
 #[cycle(evaluators)]
 fn eval_operand(s: &Rule, at: usize, v: u8, left: u8, vars: &Vars) -> Result<(i32, usize), Flaw>
     requires { Sized v s.now × Readable (expr_at left v s.now at) }

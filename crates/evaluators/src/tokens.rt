@@ -5,7 +5,7 @@ ghost use Rattle.evaluators.specs.Skip.{token_of, past};
 
 use crate::Rule;
 
-// How many bytes a token has, its tag among them.
+// How many bytes a token has, its tag among them. As `flows::width_of` but for a set's tag, which stands in none of these: one function would need that said in both contracts.
 fn bytes_of(tag: u8) -> usize
     ensures { result ≡ (token_of tag).bytes }
 {
@@ -35,6 +35,7 @@ pub fn skip(s: &Rule, at: usize) -> usize
 {
     let mut due: usize = 1;
     let mut i = at;
+    // not a `for`: each token says where the next one is, and how many are due
     while due > 0 && i < s.len() {
         let tag = s[i];
         due = due - 1 + items_of(tag);

@@ -88,7 +88,7 @@ pub fn put_record(
 
 // ---- a line
 
-// The columns among the first v variables, in rising order: into work from index at on.
+// The columns among the first v variables, in rising order: into work from index at on. As one walk with `columns_at`, by `zip`, it was tried: more was left to prove than the two loops leave.
 fn put_columns(work: &mut [i32], at: usize, l: Layout, vars: &[i32; VARIABLES])
     requires { (l.variables ≤ most_columns) × (at + count_to l.variables (bit_of l.lc) ≤ length work.old) }
     ensures { work.new ≡ over work.old at (words_of (columns_of l.variables (bit_of l.lc) (values_in vars.now))) }
@@ -153,7 +153,7 @@ fn columns_at(work: &[i32], at: usize, l: Layout) -> [i32; VARIABLES]
     vars
 }
 
-// An unfinished row, as its line and its record have it.
+// An unfinished row, as its line and its record have it. The labels are an array with their count, since there is no heap.
 #[derive(Drop)]
 pub struct Row {
     pub row: usize,

@@ -10,7 +10,7 @@ ghost use Rattle.printing.specs.Writing.{Appends};
 use itoa::{Buffer, Integer};
 use layouts::{record_at, record_size};
 
-// What is written of a text: the first `len` bytes of a buffer.
+// What is written of a text: the first `len` bytes of a buffer. Not a `write!`, which says what it wrote only where it succeeds, and here it has to.
 #[derive(Drop)]
 struct Writer<'a> {
     out: &'a mut [u8],
@@ -94,7 +94,7 @@ pub fn put_answer(res: &[i32], rows: usize, quota: usize, most: usize, out: &mut
     to.len
 }
 
-// The text of a refusal.
+// The text of a refusal. It takes any number, as its promise to callers says, not a reason.
 pub fn put_refusal(number: u8, place: usize, out: &mut [u8]) -> usize
     requires { text_room ≤ length out.old }
     ensures prefix_len { IsPrefixLen result out.new }

@@ -55,6 +55,7 @@ pub fn read_block(s: &[u8], at: usize, v: u8, blocks: u8) -> Result<usize, Refus
     ensures { result ≡ read_of (block_at blocks v s.now at) }
 {
     let mut next = at;
+    // not a `for`: each statement says where the next one begins
     while begins_stmt(s, next) {
         next = read_stmt(s, next, v)?;
     }

@@ -79,7 +79,7 @@ pub fn remainder(x: i32, y: i32) -> Result<i32, Kind>
     }
 }
 
-// ---- what the tags name: nothing but these stands where the grammar reads one
+// ---- what the tags name, read off the byte that a rule has: nothing but these stands where the grammar reads one
 
 // Of 04 to 08.
 pub fn operator(tag: u8) -> Operator
