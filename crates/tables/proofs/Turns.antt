@@ -11,8 +11,8 @@ use Rattle.definitions.specs.Rule.{Rule}
 use Rattle.definitions.specs.Columns.{flow_of, LC}
 use Rattle.definitions.specs.Plan.{bit_of}
 use Rattle.definitions.specs.Direct.{State, Round, jumped, finished, joined, advance, after_from, after, goes_on}
-use Rattle.definitions.specs.Batch.{Budgets, budget_of, record_size, record_words, record_of, count_to, line_size, line_words, columns_of}
-use Rattle.definitions.specs.Finder.{most_rows, most_columns}
+use Rattle.definitions.specs.Batch.{record_size, record_words, record_of, count_to, line_size, line_words, columns_of}
+use Rattle.definitions.specs.Finder.{most_rows, most_quota, most_columns}
 use Rattle.definitions.specs.Calls.{most_budget}
 use Rattle.definitions.proofs.Values.{words-again, words-length}
 use Rattle.definitions.proofs.Counts.{count_le}
@@ -65,70 +65,83 @@ line_low {r} {l} kn i h = lines-low i l.size h (omega (arith, kn.size', kn.prope
 abbrev pub some-row : {r : Rule} {l : Layout} {from : ℕ} {out work : List Word} → Known r l → RowAt r l.quota from out work → SomeRowAt l from out work
 some-row {r} kn k = record { rule = r; known = kn; at = k }
 
--- the budget of the row that was read is its own
-pub own-budget : {l : Layout} {from : ℕ} {out work : List Word} {p : SomeRowAt l from out work} {row : Row} → RowRead l from out work p row → {N : ℕ} (bs : Budgets) → N ≡ budget_of bs row.row → N ≡ budget_of bs p.at.row
-own-budget lk {N} bs e = e ∙ ap (budget_of bs) lk.row
+-- a row that was read and carried on: its numbers are within their limits, and its record and its line within the buffers
+pub record Fits (l : Layout) (from : ℕ) (out work : List Word) (row : Row) (c : Progress) : Type 0 where
+  pub row' : row.row < most_rows
+  pub begun : row.begun + c.rounds ≤ most_budget
+  pub count : c.count ≤ l.quota
+  pub quota : l.quota ≤ most_quota
+  pub columns : l.variables ≤ most_columns
+  pub record' : row.row * record_size l.quota + record_size l.quota ≤ length out
+  pub line : from + line_size (count_to l.variables (bit_of l.lc)) ≤ length work
 
-module _ {r : Rule} {l : Layout} {from : ℕ} {out work : List Word} (kn : Known r l) (k : RowAt r l.quota from out work) {row : Row} (lk : RowRead l from out work (some-row kn k) row) where
+module _ {l : Layout} {from : ℕ} {out work : List Word} {p : SomeRowAt l from out work} {row : Row} (lk : RowRead l from out work p row) where
+  abbrev r : Rule
+  r = p.rule
+
   abbrev q : ℕ
   q = l.quota
 
+  abbrev s : State
+  s = p.at.state
+
   pub count-in : row.count ≤ q
-  count-in = omega (arith, lk.count, k.sound.labels-few)
+  count-in = omega (arith, lk.count, p.at.sound.labels-few)
 
   abbrev pub in_hand : InHand r q row.block (take row.count row.labels) row.vars
-  in_hand = record { state = k.state; sound = k.sound; going = k.going; block' = lk.block; labels' = lk.labels'; vars' = lk.vars' }
+  in_hand = record { state = s; sound = p.at.sound; going = p.at.going; block' = lk.block; labels' = lk.labels'; vars' = lk.vars' }
 
-  pub place-fits : (at : ℕ) → at ≡ row.row * record_size q → at + record_size q ≤ length out
-  place-fits at e = rw (e, lk.row) (record_fits (some-row kn k))
-
-  pub line-room : {to : ℕ} → to ≤ from → to + line_size (count_to l.variables (bit_of l.lc)) ≤ length work
-  line-room h = omega (arith, line-fits (some-row kn k), mask-all kn)
-
-  pub row-few : row.row < most_rows
-  row-few = omega (arith, lk.row, k.few)
-
-  module _ (N : ℕ) {c : Progress} {labels vars : List Word} (w : ProgressTo r k.state (after r q N k.state) c labels vars) where
+  -- the budget of the row that was read is its own
+  module _ (f : ℕ → ℕ) {N : ℕ} (own : N ≡ f row.row) {c : Progress} {labels vars : List Word} (w : ProgressTo r s (after r q N s) c labels vars) where
     abbrev s' : State
-    s' = after r q N k.state
+    s' = after r q (f p.at.row) s
 
-    sound' : Sound r q (k.state.begun + N) s'
-    sound' = after-sound r q kn.proper k.state.begun k.state k.sound N
+    here : ProgressTo r s s' c labels vars
+    here = rw (own ∙ ap f lk.row) at w
 
-    pub begun-is : row.begun + c.rounds ≡ s'.begun
-    begun-is = ap (λ (n : ℕ). n + c.rounds) lk.begun ∙ w.begun
+    sound' : Sound r q (s.begun + f p.at.row) s'
+    sound' = after-sound r q p.known.proper s.begun s p.at.sound (f p.at.row)
 
-    pub begun-few : k.state.begun + N ≤ most_budget → row.begun + c.rounds ≤ most_budget
-    begun-few h = omega (arith, begun-is, sound'.began)
+    begun-is : row.begun + c.rounds ≡ s'.begun
+    begun-is = ap (λ (n : ℕ). n + c.rounds) lk.begun ∙ here.begun
 
-    pub count-few : c.count ≤ q
-    count-few = omega (arith, w.count, sound'.labels-few)
+    pub fits : s.begun + f p.at.row ≤ most_budget → Fits l from out work row c
+    fits h =
+        record {
+          row' = omega (arith, lk.row, p.at.few);
+          begun = omega (arith, begun-is, sound'.began);
+          count = omega (arith, here.count, sound'.labels-few);
+          quota = p.known.quota;
+          columns = omega (arith, p.known.variables, p.known.proper.few);
+          record' = rw lk.row (record_fits p);
+          line = omega (arith, line-fits p, mask-all p.known);
+        }
 
     -- the record
     module _ (at : ℕ) (ea : at ≡ row.row * record_size q) (out' : List Word)
         (eo : out' ≡ over out at (record_words q c.finish (row.begun + c.rounds) (length (take c.count labels)) (take c.count labels))) where
-      its-record : out' ≡ over out (k.row * record_size q) (record_of q s')
+      its-record : out' ≡ over out (p.at.row * record_size q) (record_of q s')
       its-record =
-          let ls : take c.count labels ≡ words_of s'.labels = sym (words-again (take c.count labels)) ∙ ap words_of w.labels' in
-          eo ∙ rw (ea, lk.row, begun-is, w.finish, ls, words-length s'.labels)
+          let ls : take c.count labels ≡ words_of s'.labels = sym (words-again (take c.count labels)) ∙ ap words_of here.labels' in
+          eo ∙ rw (ea, lk.row, begun-is, here.finish, ls, words-length s'.labels)
 
       -- it has ended
-      pub turned-off : (to : ℕ) → goes_on c.finish ≡ false → Turned r q k.row to s' out work (record { finish = c.finish; begun = row.begun + c.rounds }) out' work
+      pub turned-off : (to : ℕ) → goes_on c.finish ≡ false → Turned r q p.at.row to s' out work (record { finish = c.finish; begun = row.begun + c.rounds }) out' work
       turned-off to z = record {
-        finish' = w.finish;
+        finish' = here.finish;
         begun' = begun-is;
         record' = its-record;
-        line = rw (ap goes_on (sym w.finish) ∙ z);
+        line = rw (ap goes_on (sym here.finish) ∙ z);
       }
 
       -- it goes on
       pub turned_on : (to : ℕ) (work' : List Word) → goes_on c.finish ≡ true → work' ≡ over work to (line_words row.row c.block (row.begun + c.rounds) (columns_of l.variables (bit_of l.lc) (values_in vars)))
-          → Turned r q k.row to s' out work (record { finish = c.finish; begun = row.begun + c.rounds }) out' work'
+          → Turned r q p.at.row to s' out work (record { finish = c.finish; begun = row.begun + c.rounds }) out' work'
       turned_on to work' z ew =
-          let on : goes_on s'.finish ≡ true = ap goes_on (sym w.finish) ∙ z in
+          let on : goes_on s'.finish ≡ true = ap goes_on (sym here.finish) ∙ z in
           record {
-            finish' = w.finish;
+            finish' = here.finish;
             begun' = begun-is;
             record' = its-record;
-            line = rw on (ew ∙ rw (lk.row, w.block on, begun-is, columns-mask kn s'.vars (values_in vars) (w.vars' on)));
+            line = rw on (ew ∙ rw (lk.row, here.block on, begun-is, columns-mask p.known s'.vars (values_in vars) (here.vars' on)));
           }

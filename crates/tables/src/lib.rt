@@ -39,7 +39,7 @@ impl Budgets<'_> {
 // ---- what a run goes by
 
 // An accepted plan, its rule's bytes, the layout of its rows, and their budgets.
-#[derive(Clone, Copy)]
+#[derive(Drop)]
 struct Run<'a> {
     plan: &'a [u8],
     rule: &'a Rule,
