@@ -9,7 +9,7 @@ use lib.IntN.{pos, nat_abs}
 use lib.ListN.{length, take, drop, get_or, replicate, length-take}
 use lib.Seq.{take_at}
 use lib.Dec.{ltb}
-use borrow.Author.Tests.{ltb-true, ltb-false, eq-eqb, ne_eqb}
+use borrow.Author.Tests.{ltb-true, ltb-false}
 use Rattle.definitions.specs.Values.{Word, Val, values_in, words_of}
 use Rattle.definitions.specs.Rule.{Rule}
 use Rattle.definitions.specs.Grammar.{got}

@@ -43,7 +43,7 @@ fn first_over(budgets: Budgets) -> Option<usize>
 }
 
 // What a call is given besides its buffers.
-#[derive(Clone, Copy)]
+#[derive(Drop)]
 struct Batch<'a> {
     plan: &'a [u8],
     rows: usize,
