@@ -78,3 +78,6 @@ module _ {plan : List ℕ} (a : Accepted plan) where
       size' = k.size';
       quota = omega (arith, k.quota');
     }
+
+-- what the reading of a plan's head rests on
+pub ruleset of_head = (plan-long, variables-few, place-few)

@@ -112,11 +112,3 @@ one_over N = go (ltb most_budget N)
     go : (b : Bool) → then_some {T = ℕ} b 0 ≡ cond (ltb (cond b 0 1) 1) (Some (cond b 0 1)) None
     go true = refl
     go false = refl
-
-pub is-place : (b : Bool) (m n : ℕ) → cond b (Some m) None ≡ Some n → (b ≡ true) × (m ≡ n)
-is-place true m n e = (refl, cc)
-is-place false m n e = cc
-
-pub no-place : (b : Bool) (m : ℕ) → cond b (Some m) None ≡ None → b ≡ false
-no-place true m e = cc
-no-place false m e = refl

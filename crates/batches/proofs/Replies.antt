@@ -21,6 +21,7 @@ use Rattle.layouts.specs.declared.Layout.{Layout}
 use Rattle.tables.specs.Runs.{Allowed, RowsRun}
 use Rattle.batches.specs.Tests.{LaidOut, Tested, passes, fails, misfits, tested}
 use Rattle.batches.proofs.Budgets.{all-low}
+use Rattle.definitions.proofs.Handed.{handed}
 use Rattle.std.specs.Prelude.{Ok, Err}
 use Rattle.definitions.specs.declared.Reason.TheVariants.{NoRoom, Misfit, OverLimit, NotPlan}
 use Rattle.definitions.specs.Refusals.{refusal}
@@ -104,3 +105,6 @@ module _ (b : Batch) (out work : List Word) (r : Rule) (n : ℕ) (accepted : pla
     result = rw accepted w.records;
     working = rw accepted w.table;
   }
+
+-- what a call that is refused rests on, and one that passes
+pub ruleset of_run = (handed, tested_allowed, ran-refused)

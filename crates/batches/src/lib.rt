@@ -17,6 +17,7 @@ use rounds::Rule;
 use tables::Budgets;
 
 // What a plan tells of its rows' layout.
+#[tactic(auto, using(crate::proofs::Accepted::of_head))]
 fn layout_of(plan: &[u8], quota: usize) -> Layout
     requires { Accepted plan.now }
     ensures { LaidOut (rule_in plan.now) quota result }
@@ -64,6 +65,7 @@ impl Batch<'_> {
     }
 
     // The refusal that the numbers of a call are due, with so many words of room.
+    #[tactic(auto, unfolding(crate::specs::Tests::tested))]
     fn test(&self, l: Layout, out: usize, work: usize) -> Result<(), Refusal>
         requires { (l.arguments ≤ most_variables) × (l.size ≤ line_size most_columns) }
         ensures { result ≡ tested (batch_in self.now) l out work }
@@ -87,6 +89,7 @@ impl Batch<'_> {
     }
 
     // The batch under its plan's rule.
+    #[tactic(auto, using(crate::proofs::Replies::of_run))]
     fn run_by(&self, rule: &Rule, out: &mut [i32], work: &mut [i32]) -> Result<usize, Refusal>
         requires { Running self.now.plan.now rule.now }
         ensures { Ran (batch_in self.now) out.old work.old result out.new work.new }
