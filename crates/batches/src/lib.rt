@@ -108,6 +108,7 @@ impl Batch<'_> {
         ))
     }
 
+    // The batch, once its plan is taken.
     fn run(&self, out: &mut [i32], work: &mut [i32]) -> Result<usize, Refusal>
         ensures { Ran (batch_in self.now) out.old work.old result out.new work.new }
     {

@@ -53,9 +53,8 @@ pub fn carry(
             return c;
         }
         let e = rounds::round(plan, rule, quota, c.block, vars, labels, c.count);
-        let finish = e.finish;
         c = Progress {
-            finish,
+            finish: e.finish,
             rounds: n + 1,
             block: e.block,
             count: e.count,

@@ -25,7 +25,7 @@ use Rattle.layouts.specs.Layout.{width, line_in, lines_in, in_array}
 use Rattle.layouts.specs.declared.Layout.{Layout}
 use Rattle.layouts.proofs.Sizes.{item_in}
 use Rattle.layouts.proofs.Buffers.{over-is, over_seam}
-use Rattle.layouts.proofs.Looks.{line-length, columns-mask}
+use Rattle.layouts.proofs.Looks.{line-length, columns-mask, mask-all}
 use Rattle.tables.specs.Table.{EachRow}
 use Rattle.tables.specs.Runs.{ToStart, Started}
 use Rattle.tables.proofs.Rows.{records-append, lines-append, live-append, lines-length, each_snoc, most-append}
@@ -157,3 +157,6 @@ module _ {l : Layout} {rows : ℕ} {values : List Word} {work : List Word} (p : 
         ew ∙ ap (λ (c : List Word). over now (n * l.size) c) (fresh vars ev) ∙ ap (λ (m : ℕ). over now (n * m) x) p.known.size' ∙ rw e (over_seam y (drop (n * width r) work) x (n * width r) (starts-wide r values n))
         ∙ sym (append_assoc y x (drop (length x) (drop (n * width r) work)))
         ∙ rw (← starts-next r values n, drop-drop, z)
+
+-- what a fresh line rests on
+pub ruleset of_starts = (line-fits, mask-all)

@@ -139,6 +139,7 @@ impl Run<'_> {
 // ---- all rows
 
 // Every row's line at its start.
+#[tactic(auto, using(crate::proofs::Starts::of_starts))]
 fn put_starts(l: Layout, values: &[i32], rows: usize, work: &mut [i32])
     requires { ToStart l rows values.now work.old }
     ensures { (p : ToStart l rows values.now work.old) → Started p.rule values.now rows work.old work.new }
