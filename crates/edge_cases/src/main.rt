@@ -1,4 +1,5 @@
-// The program's answers at its edges. tools/edge_cases.py makes the files in data/ and the expected answers, from the calls below.
+// The program's answers at its edges. tools/edge_cases.py makes the files in data/ and the expected answers, from the calls below,
+// which is why they stand one a line.
 #![tactic(auto)]
 
 use std::io;

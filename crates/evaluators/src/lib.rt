@@ -59,7 +59,7 @@ fn operate_at(op: Operator, x: i32, y: i32, at: u16, n: usize) -> Result<(i32, u
     at_place(values::operate(op, x, y), at, n)
 }
 
-// ---- the evaluators
+// ---- the evaluators: a cycle on the levels left, as document 01 asks
 
 #[cycle(evaluators)]
 pub fn eval_expr(s: &Rule, at: usize, v: u8, left: u8, vars: &Vars) -> Result<(i32, usize), Flaw>

@@ -1,4 +1,4 @@
-// Answers the requests of standard input.
+// Answers the requests of standard input. Three programs say just this, since each has one stored input.
 #![tactic(auto)]
 
 use std::io;

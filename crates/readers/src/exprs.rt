@@ -52,7 +52,8 @@ pub fn read_variable(s: &[u8], at: usize, v: u8) -> Result<usize, Refusal>
     read_below(s, at, v, Reason::BadVariable)
 }
 
-// The expression at a place, where so many levels may still stand; what it holds has one less.
+// The expression at a place, where so many levels may still stand; what it holds has one less:
+// a cycle with the reader of conditions, as document 01 asks.
 #[cycle(read_cond_read_expr_read_two)]
 #[tactic(auto, using(crate::proofs::Laws::of_expr))]
 pub fn read_expr(s: &[u8], at: usize, v: u8, left: u8) -> Result<usize, Refusal>

@@ -4,7 +4,7 @@
 ghost use Rattle.std.specs.Prelude.{◌≡◌, ◌+◌, ◌*◌, ◌≤◌, length};
 ghost use Rattle.definitions.specs.Values.{outcome_of, settled, negation, sum, difference, product, quotient, remainder, is_less, is_equal};
 ghost use Rattle.definitions.specs.Meaning.{applied, compared, decided};
-ghost use Rattle.definitions.specs.Grammar.{word_of, twos, constant_in};
+ghost use Rattle.definitions.specs.Grammar.{twos, constant_in};
 ghost use Rattle.values.specs.Tags.{operator_of, relation_of, joint_of};
 ghost use Rattle.values.specs.Words.{constants_in};
 
@@ -55,6 +55,7 @@ pub fn multiply(x: i32, y: i32) -> Result<i32, Kind>
     x.checked_mul(y).ok_or(Kind::OutOfRange)
 }
 
+// Beside each other, each with its corner by name, as document 01 asks.
 pub fn divide(x: i32, y: i32) -> Result<i32, Kind>
     ensures { result ≡ outcome_of (quotient x y) }
 {
@@ -148,13 +149,6 @@ pub fn decides(j: Joint, held: bool) -> bool
 }
 
 // ---- a constant
-
-// The number with these bytes, the lowest first.
-pub fn joined(a: u8, b: u8, c: u8, d: u8) -> u32
-    ensures { result ≡ word_of a b c d }
-{
-    u32::from_le_bytes([a, b, c, d])
-}
 
 // The constant in the four bytes at `at`.
 pub fn constant(s: &[u8], at: usize) -> i32

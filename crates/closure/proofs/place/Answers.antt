@@ -1,7 +1,8 @@
 -- `closure::place` meets its contract: the lower part of the mask is what is left of it by 2 ^ k.
-use Prim.Native.Nat.{◌*◌, ◌%◌, ◌^◌}
-use mathlib.Core.Path.{◌≡◌}
+use Prim.Native.Nat.{ℕ, ◌*◌, ◌%◌, ◌^◌}
+use mathlib.Core.Path.{◌≡◌, ap, ◌∙◌}
 use native.Mathlib.Omega.{arith}
+use lib.Count.{ones}
 use Rattle.closure.proofs.Bits.{power, ones_below}
 use Rattle.closure.proofs.place.Goals as goal
 
@@ -10,4 +11,4 @@ shifted : (c : goal.Start) → 1 * 2 ^ c.args.k % 2 ^ 32 ≡ 2 ^ c.args.k
 shifted c = power 32 c.args.k (omega (arith, c.requires))
 
 pub returns : goal.returns
-returns c = rw (shifted c) (ones_below c.args.mask c.args.k)
+returns c = ap (λ (n : ℕ). ones (c.args.mask % n)) (shifted c) ∙ ones_below c.args.mask c.args.k
