@@ -3,6 +3,7 @@
 --     over-next, over_pair              writes one right after the other are one write
 --     over-start                        a write from the start on
 --     length_over, take-over, drop-over what lies before and beyond a write stays
+--     paste-all                         a copy element by element is one write
 --     over_mid                          a write to a part, by the library, is one write
 use mathlib.Core.Path.{◌≡◌, refl, sym, ap, ◌∙◌}
 use Prim.Native.Nat.{ℕ, ◌+◌, ◌-◌, ◌≤◌, ◌<◌}
@@ -11,7 +12,7 @@ use native.Mathlib.Omega.{arith}
 use native.Mathlib.Numerals.{add-one}
 use mathlib.Core.List.{List, [], ◌∷◌, ◌++◌, append_assoc}
 use lib.ListN.{length, take, drop, set, length-append, length-drop}
-use lib.Seq.{take_at, drop_at, drop-drop, set_split, length-take-le}
+use lib.Seq.{paste, take-length, take_at, drop_at, drop-drop, set_split, length-take-le}
 use borrow.Rule.Slice.PartMut.{put_mid}
 use Rattle.buffers.specs.Words.{over}
 
@@ -57,6 +58,11 @@ module _ {A : Type 0} where
   over_pair d at a b h =
       let l = length_over d at (a ∷ []) (omega arith) in
       rw (over-set d at a (omega arith)) (over-set (over d at (a ∷ [])) (at + 1) b (omega (arith, l)) ∙ over-next d at (a ∷ []) (at + 1) (b ∷ []) refl (omega arith))
+
+  -- a copy, element by element, that has come to its end
+  pub paste-all : (d : List A) (at : ℕ) (s : List A) {i : ℕ} → i ≡ length s → paste d at s i ≡ over d at s
+  unfolding over
+  paste-all d at s e = rw (e, take-length, append_assoc)
 
   -- a write to the part of k elements from index at on, by the library
   pub over_mid : (d : List A) (at k : ℕ) (t s : List A) → t ≡ s → k ≡ length s → put_mid at k d t ≡ over d at s

@@ -6,12 +6,14 @@ ghost use Rattle.definitions.specs.Plan.{le16};
 ghost use Rattle.definitions.specs.Pages.{word_at};
 ghost use Rattle.buffers.specs.Words.{over};
 
-// All of src into dst, from index at on.
+// All of src into dst, from index at on. Element by element, since `copy_from_slice` would need `memmove` of who links the library.
 pub fn copy_at<T: Copy>(dst: &mut [T], at: usize, src: &[T])
     requires { at + length src.now ≤ length dst.old }
     ensures { dst.new ≡ over dst.old at src.now }
 {
-    dst[at..at + src.len()].copy_from_slice(src);
+    for i in 0..src.len() {
+        dst[at + i] = src[i];
+    }
 }
 
 // Zeros into dst, n of them from index at on.

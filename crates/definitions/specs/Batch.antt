@@ -2,8 +2,9 @@
 use Rattle.std.specs.Prelude.{ℕ, zero, suc, ◌+◌, ◌-◌, ◌*◌, max, Bool, cond, List, [], ◌∷◌, ◌++◌, pos, length, take, drop, get_or, replicate}
 use Rattle.definitions.specs.Values.{Word, Val, values_in, words_of, unset}
 use Rattle.definitions.specs.Rule.{Rule}
-use Rattle.definitions.specs.Direct.{State, status_number, fault_place, goes_on, start, after}
+use Rattle.definitions.specs.Direct.{State, told_of, goes_on, start, after}
 use Rattle.definitions.specs.declared.Finish.{Finish}
+use Rattle.definitions.specs.declared.Told.{Told}
 
 -- ---- the rows
 
@@ -40,8 +41,11 @@ abbrev pub record_size : ℕ → ℕ
 record_size q = 4 + q
 
 -- the status, the rounds begun, how many labels, where the fault lies (02, K4), so many labels, and zeros up to the quota
+abbrev pub told_words : ℕ → Told → ℕ → ℕ → List Word → List Word
+told_words q told begun count labels = pos told.status ∷ pos begun ∷ pos count ∷ pos told.place ∷ (labels ++ replicate (q - count) (pos 0))
+
 abbrev pub record_words : ℕ → Finish → ℕ → ℕ → List Word → List Word
-record_words q how begun count labels = pos (status_number how) ∷ pos begun ∷ pos count ∷ pos (fault_place how) ∷ (labels ++ replicate (q - count) (pos 0))
+record_words q how begun count labels = told_words q (told_of how) begun count labels
 
 abbrev pub record_of : ℕ → State → List Word
 record_of q s = record_words q s.finish s.begun (length s.labels) (words_of s.labels)

@@ -6,6 +6,7 @@ use Rattle.definitions.specs.Spelling.{cond_size, stmt_size, end_size, body_size
 use Rattle.definitions.specs.Meaning.{Where, at_byte, further, eval, holds}
 use Rattle.definitions.specs.declared.Flaw.{Flaw}
 use Rattle.definitions.specs.declared.Finish.{Finish}
+use Rattle.definitions.specs.declared.Told.{Told}
 use Rattle.definitions.specs.declared.Finish.TheVariants.{Unfinished, Stopped, Faulted, QuotaFull}
 
 -- ---- how a row ends, or that it has not
@@ -23,6 +24,9 @@ fault_place Unfinished = 0
 fault_place Stopped = 0
 fault_place (Faulted f) = f.place
 fault_place QuotaFull = 0
+
+abbrev pub told_of : Finish → Told
+told_of how = record { status = status_number how; place = fault_place how }
 
 abbrev pub goes_on : Finish → Bool
 goes_on Unfinished = true

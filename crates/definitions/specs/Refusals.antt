@@ -4,6 +4,7 @@ use Rattle.std.specs.Fmt.{decimal}
 use Rattle.definitions.specs.declared.Reason.{Reason}
 use Rattle.definitions.specs.declared.Reason.TheVariants.{FileSize, PageCheck, PageForm, BadHeader, BadTag, BadVariable, BadTarget, TooDeep, EndsEarly, BytesAfter, TooLong, NoRoom, Misfit, OverLimit, NotPlan, GotoCycle}
 use Rattle.definitions.specs.declared.Refusal.{Refusal}
+use Rattle.definitions.specs.declared.ByNumber.{ByNumber}
 
 -- the numbers of the table
 abbrev pub number_of : Reason → ℕ
@@ -30,6 +31,10 @@ Reply = Result ℕ Refusal
 
 abbrev pub refusal : Reason → ℕ → Reply
 refusal k p = Err (record { reason = k; place = p })
+
+-- by any number, also by none of the table's
+abbrev pub numbered : {A : Type 0} → ℕ → ℕ → Result A ByNumber
+numbered k p = Err (record { number = k; place = p })
 
 -- a refusal as it is printed: `refused `, the number and the place
 abbrev pub refusal_shown : Refusal → List ℕ

@@ -1,9 +1,9 @@
 // The answers of the calls, and the limits. What each case stands for is said in specs/.
 #![tactic(auto)]
 
-ghost use Rattle.std.specs.Prelude.{◌≡◌, Some};
-ghost use Rattle.definitions.specs.Direct.{status_number, fault_place, goes_on};
-ghost use Rattle.definitions.specs.Refusals.{number_of, refusal_shown};
+ghost use Rattle.std.specs.Prelude.{◌≡◌, ◌==◌, Some};
+ghost use Rattle.definitions.specs.Direct.{status_number, fault_place, goes_on, told_of};
+ghost use Rattle.definitions.specs.Refusals.{number_of, refusal_shown, numbered};
 
 use std::fmt;
 
@@ -106,6 +106,30 @@ impl Finish {
             _ => false,
         }
     }
+
+    // What a record tells of it.
+    pub fn told(self) -> Told
+        ensures { result ≡ told_of self }
+    {
+        Told {
+            status: self.status(),
+            place: self.place(),
+        }
+    }
+}
+
+// A row's end as a record tells it: any status and any place, also such as no row ends with.
+#[derive(Clone, Copy, Debug, PartialEq, Eq)]
+pub struct Told {
+    pub status: u8,
+    pub place: u16,
+}
+
+// Whether a row of which this is told goes on.
+pub fn goes_on(told: Told) -> bool
+    ensures { result ≡ (told.status == 0) }
+{
+    told.status == 0
 }
 
 // Why bad input is refused. Each reason has the number that document 01 gives it.
@@ -153,6 +177,19 @@ impl Reason {
 pub struct Refusal {
     pub reason: Reason,
     pub place: usize,
+}
+
+// A refusal by any number, also by none of the table's.
+#[derive(Clone, Copy, Debug, PartialEq, Eq)]
+pub struct ByNumber {
+    pub number: u8,
+    pub place: usize,
+}
+
+pub fn refuse<T>(number: u8, place: usize) -> Result<T, ByNumber>
+    ensures { result ≡ numbered number place }
+{
+    Err(ByNumber { number, place })
 }
 
 impl fmt::Display for Refusal {

@@ -5,7 +5,7 @@ ghost use Rattle.std.specs.Prelude.{◌≡◌, true, ◌∷◌, ◌++◌, ◌+�
 ghost use Rattle.std.specs.Int.Signed.{non_neg};
 ghost use Rattle.buffers.specs.Words.{over};
 ghost use Rattle.definitions.specs.Values.{values_in, words_of};
-ghost use Rattle.definitions.specs.Batch.{record_size, record_words, line_size, line_words, count_to, columns_of};
+ghost use Rattle.definitions.specs.Batch.{record_size, told_words, line_size, line_words, count_to, columns_of};
 ghost use Rattle.definitions.specs.Finder.{most_rows, most_quota, most_columns};
 ghost use Rattle.definitions.specs.Calls.{most_budget};
 ghost use Rattle.definitions.specs.Plan.{bit_of};
@@ -13,7 +13,7 @@ ghost use Rattle.columns.specs.OnPlan.{spread};
 ghost use Rattle.layouts.specs.Layout.{in_array};
 ghost use Rattle.layouts.specs.Rows.{SomeRowAt, RowRead};
 
-use definitions::{Finish, QUOTA, ROWS, VARIABLES};
+use definitions::{QUOTA, ROWS, Told, VARIABLES};
 
 // What a rule's lines and a call's records depend on: the variables, the arguments, the LC columns among the variables, a line's size, and the quota.
 #[derive(Clone, Copy)]
@@ -68,19 +68,19 @@ pub fn put_record(
     out: &mut [i32],
     at: usize,
     quota: usize,
-    finish: Finish,
+    told: Told,
     begun: usize,
     labels: &[i32],
 )
     requires { (begun ≤ most_budget) × ((length labels.now ≤ quota) × ((quota ≤ most_quota) × (at + record_size quota ≤ length out.old))) }
-    ensures { out.new ≡ over out.old at (record_words quota finish begun (length labels.now) labels.now) }
+    ensures { out.new ≡ over out.old at (told_words quota told begun (length labels.now) labels.now) }
 {
-    let status = finish.status();
+    let status = told.status;
     let count = labels.len();
     out[at] = status as i32;
     out[at + 1] = begun as i32;
     out[at + 2] = count as i32;
-    out[at + 3] = finish.place() as i32;
+    out[at + 3] = told.place as i32;
     let first = at + RECORD_HEAD;
     buffers::copy_at(out, first, labels);
     buffers::clear_at(out, first + count, quota - count);

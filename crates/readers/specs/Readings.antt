@@ -1,8 +1,9 @@
 -- Readings that the readers share, beside those of the grammar. Assumes nothing: these are definitions.
-use Rattle.std.specs.Prelude.{ℕ, ◌+◌, Bool, true, false, cond, List, eqb, get_or}
+use Rattle.std.specs.Prelude.{ℕ, ◌+◌, Bool, true, false, cond, List, eqb, ltb, length, get_or, Result}
 use Rattle.definitions.specs.Rule.{Stmt}
 use Rattle.definitions.specs.Grammar.{Got, got, refused, then, byte_at, StmtTag, set_tag, emit_tag, no_stmt, stmt_tag, set_at, emit_at, headed, blocks_in}
-use Rattle.definitions.specs.Refusals.{Reply}
+use Rattle.definitions.specs.Refusals.{Reply, numbered}
+use Rattle.definitions.specs.declared.ByNumber.{ByNumber}
 use Rattle.std.specs.Prelude.{Ok, Err}
 use Rattle.definitions.specs.declared.Reason.TheVariants.{BadTag, TooDeep}
 
@@ -14,6 +15,10 @@ tag_at left s at = then (byte_at s at) (λ t n. cond (eqb left 0) (refused TooDe
 unfoldable pub due_of : Got ℕ → Reply
 due_of (got t n) = Ok t
 due_of (refused k p) = Err (record { reason = k; place = p })
+
+-- a byte that names one of so many: the place after it, or the refusal by a number; 9 where there is none
+abbrev pub told_below : ℕ → ℕ → List ℕ → ℕ → Result ℕ ByNumber
+told_below high number s at = cond (ltb at (length s)) (cond (ltb (get_or s at 0) high) (Ok (at + 1)) (numbered number at)) (numbered 9 (length s))
 
 -- two of a kind, of which the first is passed over
 abbrev pub second : {A : Type 0} → (ℕ → Got A) → ℕ → Got A

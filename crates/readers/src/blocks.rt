@@ -3,7 +3,7 @@ ghost use Rattle.std.specs.Prelude.{◌≡◌};
 ghost use Rattle.definitions.specs.Grammar.{read_of, end_at, block_at};
 ghost use Rattle.readers.specs.Readings.{begins, stmt_at};
 
-use crate::exprs::{read_below, read_cond, read_expr, read_tag, read_variable};
+use crate::exprs::{read_cond, read_expr, read_named, read_tag, read_variable};
 use definitions::{DEPTH, LEVELS, Reason, Refusal};
 
 // The ending at a place: an if holds two more, with a level less.
@@ -15,7 +15,7 @@ pub fn read_end(s: &[u8], at: usize, v: u8, blocks: u8, left: u8) -> Result<usiz
     let next = at + 1;
     let less = left - 1;
     match tag {
-        0x30 | 0x31 => read_below(s, next, blocks, Reason::BadTarget),
+        0x30 | 0x31 => read_named(s, next, blocks, Reason::BadTarget),
         0x32 => Ok(next),
         0x33 => {
             let n = read_cond(s, next, v, DEPTH)?;

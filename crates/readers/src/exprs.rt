@@ -1,9 +1,9 @@
 // Readers of expressions and conditions: where what stands at a place ends, or why it is refused.
 ghost use Rattle.std.specs.Prelude.{◌≡◌};
 ghost use Rattle.definitions.specs.Grammar.{read_of, byte_at, below_at, constant_at, variable_at, expr_at, cond_at};
-ghost use Rattle.readers.specs.Readings.{tag_at, due_of, second};
+ghost use Rattle.readers.specs.Readings.{tag_at, due_of, told_below, second};
 
-use definitions::{Reason, Refusal};
+use definitions::{ByNumber, Reason, Refusal, refuse};
 
 // The byte at a place, or that the rule ends early.
 fn byte_at(s: &[u8], at: usize) -> Result<u8, Refusal>
@@ -34,7 +34,7 @@ fn read_constant(s: &[u8], at: usize) -> Result<usize, Refusal>
 }
 
 // A byte that names one of so many, or it is refused for this reason.
-pub fn read_below(s: &[u8], at: usize, high: u8, why: Reason) -> Result<usize, Refusal>
+pub fn read_named(s: &[u8], at: usize, high: u8, why: Reason) -> Result<usize, Refusal>
     ensures { result ≡ read_of (below_at high why s.now at) }
 {
     let k = byte_at(s, at)?;
@@ -45,11 +45,22 @@ pub fn read_below(s: &[u8], at: usize, high: u8, why: Reason) -> Result<usize, R
     }
 }
 
+// The same by a number, which may be none of the table's.
+pub fn read_below(s: &[u8], at: usize, high: u8, number: u8) -> Result<usize, ByNumber>
+    ensures { result ≡ told_below high number s.now at }
+{
+    match s.get(at) {
+        None => refuse(Reason::EndsEarly.number(), s.len()),
+        Some(k) if *k < high => Ok(at + 1),
+        Some(_) => refuse(number, at),
+    }
+}
+
 // A variable's byte, which has to be below v.
 pub fn read_variable(s: &[u8], at: usize, v: u8) -> Result<usize, Refusal>
     ensures { result ≡ read_of (variable_at v s.now at) }
 {
-    read_below(s, at, v, Reason::BadVariable)
+    read_named(s, at, v, Reason::BadVariable)
 }
 
 // The expression at a place, where so many levels may still stand; what it holds has one less:

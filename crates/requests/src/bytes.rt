@@ -11,10 +11,15 @@ pub fn answer<F: FnOnce(&[u8], &mut [u8]) -> Result<usize, Refusal>, R: Read, W:
 ) -> Result<(), Unserved>
     requires { F.IsAlwaysCallable call }
 {
-    let room = input::size(from)?;
     let mut src = [0u8; MOST];
-    let src = input::part(from, &mut src, input::fill)?;
     let mut out = [0xAAu8; MOST];
+    let room = input::number(from)? as usize;
+    let length = input::size(from)?;
+    if MOST < room {
+        return Err(Unserved::NoRequest);
+    }
+    let src = &mut src[..length];
+    input::fill(from, src)?;
     let out = &mut out[..room];
     output::reply(to, call(src, out))?;
     to.write_all(b" ")?;

@@ -49,23 +49,23 @@ struct Run<'a> {
 
 // Where a row's line is read, and where it is written if the row goes on.
 #[derive(Drop)]
-struct Move {
-    from: usize,
-    to: usize,
+pub struct Move {
+    pub from: usize,
+    pub to: usize,
 }
 
 // How far a row has come.
 #[derive(Drop)]
-struct Stage {
-    finish: Finish,
-    begun: usize,
+pub struct Stage {
+    pub finish: Finish,
+    pub begun: usize,
 }
 
 // How many rows go on, and the most rounds that any row began.
 #[derive(Drop)]
-struct Standing {
-    live: usize,
-    most: usize,
+pub struct Standing {
+    pub live: usize,
+    pub most: usize,
 }
 
 impl Run<'_> {
@@ -99,7 +99,7 @@ impl Run<'_> {
         let begun = begun + c.rounds;
         let at = record_at(row, l.quota);
         let finish = c.finish;
-        put_record(out, at, l.quota, finish, begun, &labels[..c.count]);
+        put_record(out, at, l.quota, finish.told(), begun, &labels[..c.count]);
         if finish.goes_on() {
             let line = Line {
                 row,

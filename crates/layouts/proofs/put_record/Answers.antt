@@ -8,6 +8,5 @@ use Rattle.layouts.proofs.put_record.Goals as goal
 pub returns : goal.returns
 returns c =
     let a = c.args in
-    rw (← c.status-status.ensures, ← c.place.ensures)
-    (record_law a.out.now a.at c.status-status.result a.begun (length a.labels.now) c.place.result a.labels.now _ c.copy_at.new.dst c.clear_at.new.dst (omega arith) (omega arith) (omega arith) (omega arith) refl (omega arith)
-    c.copy_at.ensures c.clear_at.ensures)
+    record_law a.out.now a.at a.told.status a.begun (length a.labels.now) a.told.place a.labels.now _ c.copy_at.new.dst c.clear_at.new.dst (omega arith) (omega arith) (omega arith) (omega arith) refl (omega arith)
+    c.copy_at.ensures c.clear_at.ensures

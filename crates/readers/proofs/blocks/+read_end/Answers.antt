@@ -10,7 +10,7 @@ pub returns-in_err-tag : goal.returns-in_err-tag
 returns-in_err-tag t c = end_none _ _ _ _ _ _ _ c.from_residual.ensures c.read_tag.ensures c.in_err-tag.was
 
 pub returns-in-48 : goal.returns-in-48
-returns-in-48 t c = end-goes _ _ _ _ _ _ _ c.read_tag.ensures c.in_ok-tag.was (omega arith) (omega arith) c.read_below.ensures
+returns-in-48 t c = end-goes _ _ _ _ _ _ _ c.read_tag.ensures c.in_ok-tag.was (omega arith) (omega arith) c.read_named.ensures
 
 pub returns-in_err-n-in-51 : goal.returns-in_err-n-in-51
 returns-in_err-n-in-51 t c = end-if _ _ _ _ _ _ _ c.read_tag.ensures c.in_ok-tag.was c.in-51.is (ends _ _ _ _ c.from_residual-in_err-n-in-51.ensures c.read_cond.ensures c.in_err-n-in-51.was)

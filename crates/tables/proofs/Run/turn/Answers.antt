@@ -47,10 +47,10 @@ pub returns-then-goes_on : goal.returns-then-goes_on
 returns-then-goes_on c =
     λ k.
     let lk = c.read_row-row.ensures (some-row c.requires.running.0.known k) in
-    turned_on lk (budget_in c.args.self.now) c.of-budget.ensures (c.carry-c.ensures (in_hand lk)) _ c.record_at-at.ensures _ c.put_record.ensures _ _ (sym c.goes_on.ensures ∙ c.if-goes_on.true) c.put_line.ensures
+    turned_on lk (budget_in c.args.self.now) c.of-budget.ensures (c.carry-c.ensures (in_hand lk)) _ c.record_at-at.ensures _ (rw c.told.ensures at c.put_record.ensures) _ _ (sym c.goes_on.ensures ∙ c.if-goes_on.true) c.put_line.ensures
 
 pub returns-else-goes_on : goal.returns-else-goes_on
 returns-else-goes_on c =
     λ k.
     let lk = c.read_row-row.ensures (some-row c.requires.running.0.known k) in
-    turned-off lk (budget_in c.args.self.now) c.of-budget.ensures (c.carry-c.ensures (in_hand lk)) _ c.record_at-at.ensures _ c.put_record.ensures _ (sym c.goes_on.ensures ∙ c.if-goes_on.false)
+    turned-off lk (budget_in c.args.self.now) c.of-budget.ensures (c.carry-c.ensures (in_hand lk)) _ c.record_at-at.ensures _ (rw c.told.ensures at c.put_record.ensures) _ (sym c.goes_on.ensures ∙ c.if-goes_on.false)

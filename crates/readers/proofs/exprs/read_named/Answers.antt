@@ -1,11 +1,11 @@
--- `readers::exprs::read_below` meets its contract: where a byte is, the test says whether it is low enough.
+-- `readers::exprs::read_named` meets its contract: where a byte is, the test says whether it is low enough.
 use native.Mathlib.Omega.{arith}
 use Rattle.std.proofs.Common.{◌∙◌}
 use borrow.Author.Tests.{lt-ltb, le-ltb}
 use Rattle.definitions.specs.Grammar.{read_of}
 use Rattle.definitions.proofs.Handed.{handed}
 use Rattle.readers.proofs.Laws.{told, no_tag, byte-got}
-use Rattle.readers.proofs.exprs.read_below.Goals as goal
+use Rattle.readers.proofs.exprs.read_named.Goals as goal
 
 pub returns-in_err-k : goal.returns-in_err-k
 returns-in_err-k c = handed _ _ c.from_residual.ensures ∙ no_tag _ _ _ (told c.byte_at.ensures c.in_err-k.was)
