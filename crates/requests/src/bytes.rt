@@ -15,6 +15,7 @@ pub fn answer<F: FnOnce(&[u8], &mut [u8]) -> Result<usize, Refusal>, R: Read, W:
     let mut out = [0xAAu8; MOST];
     let room = input::number(from)? as usize;
     let length = input::size(from)?;
+    // only after the length, as an input that fails before it is an error
     if MOST < room {
         return Err(Unserved::NoRequest);
     }
